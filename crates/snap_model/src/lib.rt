@@ -1,0 +1,13 @@
+//! What every other crate speaks of: the calls on a map with their history, the commands and replies of a
+//! script, names, want of memory, and a plain sorted map.
+#![tactic(auto)]
+
+mod call;
+mod command;
+mod memory;
+mod name;
+
+pub use call::{Call, Entry, Key};
+pub use command::{Command, Reply};
+pub use memory::OutOfMemory;
+pub use name::Name;
