@@ -1,0 +1,4 @@
+pub mod Rising
+pub mod Finding
+pub mod Cutting
+mod Examples

@@ -1,2 +1,3 @@
 pub mod SortedMap
+pub mod Places
 pub mod History

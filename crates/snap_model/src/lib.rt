@@ -6,8 +6,10 @@ mod call;
 mod command;
 mod memory;
 mod name;
+mod plain_map;
 
 pub use call::{Call, Entry, Key};
 pub use command::{Command, Reply};
 pub use memory::OutOfMemory;
 pub use name::Name;
+pub use plain_map::PlainMap;
