@@ -1,4 +1,4 @@
-ghost use Rattle.std.specs.Prelude.{◌≡◌, [], ℕ, IfOk, IfErr, IsSome, IsOk, OnErr, nat_lt, nat_le};
+ghost use Rattle.std.specs.Prelude.{◌≡◌, ◌↔◌, [], IsTrue, length, ℕ, IfOk, IfErr, IsSome, IsOk, OnErr, nat_lt, nat_le};
 ghost use Rattle.snap_model.specs.SortedMap.{Pairs, IsSortedMap, at, after_put, after_remove, first_pair, last_pair, range, count, floor, lower, ceiling, higher};
 ghost use Rattle.snap_model.specs.Places.{IsFoundAt, IsGapAt, IsCutAt};
 
@@ -30,6 +30,20 @@ impl PlainMap {
         PlainMap {
             pairs: Vec::new(alloc),
         }
+    }
+
+    /// How many pairs the map has.
+    pub fn len(&self) -> usize
+        ensures { result ≡ length self.now }
+    {
+        self.pairs.len()
+    }
+
+    /// Whether the map has no pair.
+    pub fn is_empty(&self) -> bool
+        ensures { IsTrue result ↔ (self.now ≡ []) }
+    {
+        self.pairs.is_empty()
     }
 
     /// Sets the key, and answers the value that was there.

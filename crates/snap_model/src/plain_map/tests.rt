@@ -26,6 +26,8 @@ fn pairs_stand_by_rising_keys(rt: HostRuntime) -> Result<(), Fail> {
     let map = map_of(rt.alloc(), &[(9, 1), (2, 2), (u64::MAX, 3), (0, 4), (2, 5)])?;
     let all = [(0, 4), (2, 5), (9, 1), (u64::MAX, 3)];
     assert_eq!(rt; map.range(0, u64::MAX), &all[..]);
+    assert_eq!(rt; map.len(), 4);
+    assert!(rt; !map.is_empty());
     assert_eq!(rt; map.range(1, 9), &all[1..3]);
     assert_eq!(rt; map.range(9, 1).len(), 0);
     assert_eq!(rt; map.count(2, 2), 1);
