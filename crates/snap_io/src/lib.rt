@@ -1,0 +1,15 @@
+//! The outside of the program as traits: files by name, a stream of bytes, and the turns of workers.
+//!
+//! Each trait says what its calls do to what is held, and counts its faults. `MemShelf` and `MemSink` tell what
+//! they hold, and fail where they are told to; `DiskShelf` and `StdSink` stand over the system and tell nothing.
+#![tactic(auto)]
+
+mod failed;
+mod shelf;
+mod sink;
+mod turn;
+
+pub use failed::Failed;
+pub use shelf::Shelf;
+pub use sink::Sink;
+pub use turn::{FreeTurn, Turn};
