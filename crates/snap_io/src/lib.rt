@@ -5,11 +5,14 @@
 #![tactic(auto)]
 
 mod failed;
+mod mem_sink;
+mod plan;
 mod shelf;
 mod sink;
 mod turn;
 
 pub use failed::Failed;
+pub use mem_sink::MemSink;
 pub use shelf::Shelf;
 pub use sink::Sink;
 pub use turn::{FreeTurn, Turn};
