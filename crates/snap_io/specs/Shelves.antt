@@ -9,6 +9,10 @@ Files = List ℕ → Option (List ℕ)
 abbrev pub SameBut : List ℕ → Files → Files → Type 0
 SameBut name old new = (other : List ℕ) → other ≢ name → new other ≡ old other
 
+-- one file has these bytes, and all others are as they were
+abbrev pub Sets : List ℕ → List ℕ → Files → Files → Type 0
+Sets name bytes old new = SameBut name old new × (new name ≡ Some bytes)
+
 -- a fact of the files, where they are told
 abbrev pub IfTold : Option Files → (Files → Type 0) → Type 0
 IfTold None fact = ⊤

@@ -5,6 +5,7 @@
 #![tactic(auto)]
 
 mod failed;
+mod mem_shelf;
 mod mem_sink;
 mod plan;
 mod shelf;
@@ -12,6 +13,7 @@ mod sink;
 mod turn;
 
 pub use failed::Failed;
+pub use mem_shelf::{MemShelf, ShelfOp};
 pub use mem_sink::MemSink;
 pub use shelf::Shelf;
 pub use sink::Sink;

@@ -1,7 +1,7 @@
-ghost use Rattle.std.specs.Prelude.{◌≡◌, [], ◌∷◌, ◌++◌, ℕ, List, Some, IsTrue, IsErr, OnOk, OnErr, is_err};
+ghost use Rattle.std.specs.Prelude.{◌≡◌, [], Some, IsTrue, IsErr, OnOk, OnErr, is_err};
 ghost use Rattle.snap_io.specs.Causes.{HasCause, raised_if};
 ghost use Rattle.snap_io.specs.MemSink.{bytes_of, faults_of, plan_of};
-ghost use Rattle.snap_io.specs.Plan.{after_call, fails_next};
+ghost use Rattle.snap_io.specs.Plan.{after_call, fails_next, no_plan, with_number};
 ghost use Rattle.snap_io.specs.Sinks.{Puts};
 
 use crate::plan::Plan;
@@ -22,7 +22,7 @@ impl MemSink {
     pub fn new(alloc: Global) -> MemSink
         ensures bytes { bytes_of result ≡ [] }
         ensures faults { faults_of result ≡ 0 }
-        ensures plan { plan_of result ≡ record { made = 0; failing = [] } }
+        ensures plan { plan_of result ≡ no_plan }
     {
         MemSink {
             held: Vec::new(alloc),
@@ -33,7 +33,7 @@ impl MemSink {
 
     /// The n-th `put`, counted from 1 at making, will fail and add nothing.
     pub fn fail(&mut self, n: u64) -> Result<(), OutOfMemory>
-        ensures planned { OnOk result (plan_of self.new ≡ record (plan_of self.old) { failing = (plan_of self.old).failing ++ n ∷ [] }) }
+        ensures planned { OnOk result (plan_of self.new ≡ with_number n (plan_of self.old)) }
         ensures refused { OnErr result (plan_of self.new ≡ plan_of self.old) }
         ensures bytes { bytes_of self.new ≡ bytes_of self.old }
         ensures faults { faults_of self.new ≡ faults_of self.old }
@@ -75,10 +75,12 @@ impl Sink for MemSink {
         ensures fault { faults_of self.new ≡ raised_if (is_err result) (faults_of self.old) }
         ensures kept { OnErr result (bytes_of self.new ≡ bytes_of self.old) }
     {
-        if self.plan.call() || self.held.extend_from_slice(bytes).is_err() {
-            self.count = self.count.saturating_add(1);
-            return Err(Failed);
+        if self.plan.call() {
+            return Err(Failed::counted(&mut self.count));
         }
-        Ok(())
+        match self.held.extend_from_slice(bytes) {
+            Ok(()) => Ok(()),
+            Err(_) => Err(Failed::counted(&mut self.count)),
+        }
     }
 }

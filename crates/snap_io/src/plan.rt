@@ -1,5 +1,5 @@
-ghost use Rattle.std.specs.Prelude.{◌≡◌, [], ◌∷◌, ◌++◌, OnOk, OnErr};
-ghost use Rattle.snap_io.specs.Plan.{after_call, fails_next};
+ghost use Rattle.std.specs.Prelude.{◌≡◌, OnOk, OnErr};
+ghost use Rattle.snap_io.specs.Plan.{after_call, fails_next, no_plan, with_number};
 
 use snap_model::OutOfMemory;
 use std::alloc::Global;
@@ -22,7 +22,7 @@ impl Model for Plan {
 
 impl Plan {
     pub(crate) fn new(alloc: Global) -> Plan
-        ensures { result ≡ record { made = 0; failing = [] } }
+        ensures { result ≡ no_plan }
     {
         Plan {
             made: 0,
@@ -31,7 +31,7 @@ impl Plan {
     }
 
     pub(crate) fn fail(&mut self, n: u64) -> Result<(), OutOfMemory>
-        ensures ok { OnOk result (self.new ≡ record self.old { failing = self.old.failing ++ n ∷ [] }) }
+        ensures ok { OnOk result (self.new ≡ with_number n self.old) }
         ensures err { OnErr result (self.new ≡ self.old) }
     {
         self.failing.push(n)?;
