@@ -4,17 +4,21 @@
 //! they hold, and fail where they are told to; `DiskShelf` and `StdSink` stand over the system and tell nothing.
 #![tactic(auto)]
 
+mod disk_shelf;
 mod failed;
 mod mem_shelf;
 mod mem_sink;
 mod plan;
 mod shelf;
 mod sink;
+mod std_sink;
 mod turn;
 
+pub use disk_shelf::DiskShelf;
 pub use failed::Failed;
 pub use mem_shelf::{MemShelf, ShelfOp};
 pub use mem_sink::MemSink;
 pub use shelf::Shelf;
 pub use sink::Sink;
+pub use std_sink::StdSink;
 pub use turn::{FreeTurn, Turn};

@@ -1,0 +1,31 @@
+ghost use Rattle.std.specs.Prelude.{None};
+
+use crate::{Failed, Sink};
+use std::io::Print;
+
+/// Standard output. Tells no bytes, and takes each error for a fault, that of a write that takes nothing too.
+#[derive(Drop)]
+pub struct StdSink<'r, R: Print> {
+    out: &'r R,
+    count: u64,
+}
+
+impl<'r, R: Print> StdSink<'r, R> {
+    /// A sink over this output, without faults.
+    pub fn new(out: &'r R) -> StdSink<'r, R> {
+        StdSink { out, count: 0 }
+    }
+}
+
+impl<'r, R: Print> Sink for StdSink<'r, R> {
+    ghost written = { λ s. None };
+
+    ghost faults = { λ s. s.count };
+
+    fn put(&mut self, bytes: &[u8]) -> Result<(), Failed> {
+        match self.out.write_all(bytes) {
+            Ok(()) => Ok(()),
+            Err(_) => Err(Failed::counted(&mut self.count)),
+        }
+    }
+}
