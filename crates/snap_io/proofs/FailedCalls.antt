@@ -1,5 +1,5 @@
 -- A call that failed and changed no file meets what a shelf promises after a failure.
-use Rattle.std.proofs.Common.{◌≡◌, ◌++◌, ℕ, List, Option, Some, None, Err, ap, sym, ◌∙◌, inl}
+use Rattle.std.proofs.Common.{◌≡◌, ℕ, List, Option, Some, None, Err, ap, sym, ◌∙◌, inl}
 use Rattle.std.proofs.lemmas.List.{append-nil}
 use Rattle.snap_io.specs.Shelves.{Appends, Creates, Files, Grows}
 use Rattle.snap_io.specs.declared.failed.Failed.{Failed}

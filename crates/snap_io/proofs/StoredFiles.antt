@@ -1,5 +1,5 @@
 -- What a write into a map from texts to bytes does to the files that it stores.
-use Rattle.std.proofs.Common.{◌≡◌, ◌≢◌, ℕ, Bool, true, false, List, Option, Some, String, Vec, BTreeMap, option_map, string_bytes, string_cmp, nat_cmp, refl, sym, ap, ◌∙◌, inl, inr, ◌++◌, if◌then◌else◌, true≢false, Result, Ok, Err, is_ok, OnOk, OnErr}
+use Rattle.std.proofs.Common.{◌≡◌, ◌≢◌, ℕ, false, List, Some, String, Vec, BTreeMap, option_map, string_bytes, string_cmp, nat_cmp, refl, sym, ap, ◌∙◌, inl, inr, ◌++◌, if◌then◌else◌, true≢false, Result, Ok, Err, is_ok, OnOk, OnErr}
 use Rattle.std.specs.BTreeMap.{get_by_text, UpdatesBy}
 use Rattle.std.specs.declared.alloc.AllocError.{AllocError}
 use Rattle.std.specs.Cmp.Lexicographic.{slice_cmp}

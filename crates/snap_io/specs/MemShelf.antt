@@ -1,9 +1,9 @@
 -- What contracts see of a shelf in memory.
-use Rattle.std.specs.Prelude.{ℕ, List, Option, Vec, String}
+use Rattle.std.specs.Prelude.{ℕ, Vec, String}
 use Rattle.std.specs.BTreeMap.{BTreeMap, get_by_text}
 use Rattle.std.specs.Global.{Global}
 use Rattle.std.specs.Option.{option_map}
-use Rattle.snap_io.specs.Plan.{Planned, no_plan, with_number}
+use Rattle.snap_io.specs.Plan.{no_plan, with_number}
 use Rattle.snap_io.specs.Shelves.{Files}
 use Rattle.snap_io.specs.declared.mem_shelf.MemShelf.{MemShelf}
 use Rattle.snap_io.specs.declared.mem_shelf.Plans.{Plans}

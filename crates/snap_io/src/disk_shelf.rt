@@ -1,11 +1,13 @@
-ghost use Rattle.std.specs.Prelude.{◌≤◌, IfOk, None, length};
+ghost use Rattle.std.specs.Prelude.{◌≡◌, ◌≤◌, IfOk, None, length};
 
 use crate::{Failed, Shelf};
 use std::fs::{Files, OpenOptions};
 use std::io;
-use std::io::{Read, Seek, SeekFrom, Write};
+use std::io::{ErrorKind, Read, Seek, SeekFrom, Write};
+use std::marker::Model;
 
 /// The files of the system. Tells none of them, and takes each error for a fault, that of an absent name too.
+/// Contracts see its reading and its writing count.
 #[derive(Drop)]
 pub struct DiskShelf<'r, R: Files> {
     system: &'r R,
@@ -13,9 +15,19 @@ pub struct DiskShelf<'r, R: Files> {
     writing: u64,
 }
 
+impl<'r, R: Files> Model for DiskShelf<'r, R> {
+    ghost use Rattle.std.specs.Prelude.{ℕ};
+
+    ghost Value = { ℕ × ℕ };
+
+    ghost view = { λ s. (s.reading, s.writing) };
+}
+
 impl<'r, R: Files> DiskShelf<'r, R> {
     /// A shelf over these files, without faults.
-    pub fn new(files: &'r R) -> DiskShelf<'r, R> {
+    pub fn new(files: &'r R) -> DiskShelf<'r, R>
+        ensures { result ≡ (0, 0) }
+    {
         DiskShelf {
             system: files,
             reading: 0,
@@ -27,9 +39,9 @@ impl<'r, R: Files> DiskShelf<'r, R> {
 impl<'r, R: Files> Shelf for DiskShelf<'r, R> {
     ghost files = { λ s. None };
 
-    ghost read_faults = { λ s. s.reading };
+    ghost read_faults = { λ s. s.0 };
 
-    ghost write_faults = { λ s. s.writing };
+    ghost write_faults = { λ s. s.1 };
 
     fn size(&mut self, name: &str) -> Result<u64, Failed> {
         match size_of(self.system, name) {
@@ -61,7 +73,11 @@ impl<'r, R: Files> Shelf for DiskShelf<'r, R> {
 }
 
 fn size_of<R: Files>(system: &R, name: &str) -> io::Result<u64> {
-    Ok(system.metadata(name)?.len())
+    let found = system.metadata(name)?;
+    if found.is_dir() {
+        return Err(ErrorKind::IsADirectory.into());
+    }
+    Ok(found.len())
 }
 
 fn read_at<R: Files>(system: &R, name: &str, at: u64, into: &mut [u8]) -> io::Result<usize>

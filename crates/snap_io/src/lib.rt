@@ -12,6 +12,8 @@ mod plan;
 mod shelf;
 mod sink;
 mod std_sink;
+#[cfg(test)]
+mod tests;
 mod turn;
 
 pub use disk_shelf::DiskShelf;

@@ -1,4 +1,3 @@
-use Rattle.std.proofs.Common.{sym}
 use Rattle.snap_io.proofs.StoredFiles.{sets_file}
 use Rattle.snap_io.proofs.mem_shelf.set_file.Goals as goal
 
