@@ -5,6 +5,7 @@ use Rattle.std.specs.Prelude.{ℕ, ◌+◌, ◌-◌, ◌^◌, ◌≤◌, ◌⊎�
 abbrev pub raised : ℕ → ℕ
 raised count = min (count + 1) (2 ^ 64 - 1)
 
+-- the count after a call that was a fault or not
 abbrev pub raised_if : Bool → ℕ → ℕ
 raised_if fault count = if fault then raised count else count
 

@@ -22,13 +22,15 @@ files_of shelf = stored shelf.held
 abbrev pub plans_of : MemShelf → Plans
 plans_of shelf = shelf.plans
 
--- how often a reading and a writing call has failed
+-- how often a size or a read has failed
 abbrev pub read_faults_of : MemShelf → ℕ
 read_faults_of shelf = shelf.reading
 
+-- how often a create or an append has failed
 abbrev pub write_faults_of : MemShelf → ℕ
 write_faults_of shelf = shelf.writing
 
+-- both counts
 abbrev pub faults_of : MemShelf → ℕ × ℕ
 faults_of shelf = (read_faults_of shelf, write_faults_of shelf)
 
