@@ -1,0 +1,43 @@
+ghost use Rattle.std.specs.Prelude.{◌≡◌, ◌⊎◌, Ok, Err, IfOk, IfErr};
+ghost use Rattle.snap_text.specs.Scripts.{script_of};
+
+use crate::grammar::read_line;
+use crate::split::Lines;
+use crate::{Line, Script, ScriptFault};
+use std::alloc::Global;
+
+const MOST_BYTES: usize = 4_194_304;
+
+const MOST_LINES: usize = 100_000;
+
+/// The script of a text. It is too long above 4,194,304 bytes or 100,000 lines; else it is refused for its first
+/// line that is no command.
+pub fn read_script(alloc: Global, bytes: &[u8]) -> Result<Script, ScriptFault>
+    ensures ok { IfOk result (λ script. script_of bytes.now ≡ Ok script) }
+    ensures refused { IfErr result (λ fault. (fault ≡ ScriptFault.Memory) ⊎ (script_of bytes.now ≡ Err fault)) }
+{
+    if bytes.len() > MOST_BYTES || Lines::of(bytes).count() > MOST_LINES {
+        return Err(ScriptFault::TooLong);
+    }
+    let mut script = Script::new(alloc);
+    let mut number: u32 = 0;
+    for text in Lines::of(bytes) {
+        number += 1;
+        match read_line(text) {
+            Ok(None) => {}
+            Ok(Some(command)) => {
+                if script
+                    .add(Line {
+                        line: number,
+                        command,
+                    })
+                    .is_err()
+                {
+                    return Err(ScriptFault::Memory);
+                }
+            }
+            Err(kind) => return Err(ScriptFault::Line { line: number, kind }),
+        }
+    }
+    Ok(script)
+}
