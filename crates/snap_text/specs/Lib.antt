@@ -4,3 +4,4 @@ pub mod Lines
 pub mod Grammar
 pub mod Scripts
 pub mod Replies
+pub mod Examples

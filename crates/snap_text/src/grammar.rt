@@ -1,4 +1,4 @@
-ghost use Rattle.std.specs.Prelude.{◌≡◌, ◌≢◌, [], ◌∷◌, MatchResult, length, ok_or};
+ghost use Rattle.std.specs.Prelude.{◌≡◌, ◌≢◌, [], ◌∷◌, MatchResult, codes, length, ok_or};
 ghost use Rattle.snap_text.specs.Grammar.{command_of, filled, form_of};
 ghost use Rattle.snap_text.specs.Lines.{words};
 ghost use Rattle.snap_text.specs.Numbers.{greatest_key, number_of};
@@ -38,7 +38,9 @@ fn read_command(first: &[u8], words: Words<'_>) -> Result<Command, LineKind>
     }
 }
 
-fn read_put(words: Words<'_>) -> Result<Command, LineKind> {
+fn read_put(words: Words<'_>) -> Result<Command, LineKind>
+    ensures { result ≡ filled (form_of (codes "put")) words.entry }
+{
     let (key, value) = two(words)?;
     Ok(Command::Put {
         key: read_key(key)?,

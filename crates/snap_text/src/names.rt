@@ -1,4 +1,5 @@
 ghost use Rattle.std.specs.Prelude.{◌≡◌};
+ghost use Rattle.std.specs.List.{list_all};
 ghost use Rattle.snap_text.specs.Names.{is_file, is_file_byte};
 
 const MOST_FILE_BYTES: usize = 200;
@@ -7,10 +8,13 @@ const MOST_FILE_BYTES: usize = 200;
 pub fn is_file(text: &[u8]) -> bool
     ensures { result ≡ is_file text.now }
 {
-    !text.is_empty()
-        && text.len() <= MOST_FILE_BYTES
-        && text.iter().all(|byte| is_file_byte(*byte))
-        && text[0] != b'-'
+    !text.is_empty() && text.len() <= MOST_FILE_BYTES && are_file_bytes(text) && text[0] != b'-'
+}
+
+fn are_file_bytes(text: &[u8]) -> bool
+    ensures { result ≡ list_all is_file_byte text.now }
+{
+    text.iter().all(|byte| is_file_byte(*byte))
 }
 
 fn is_file_byte(byte: u8) -> bool

@@ -1,5 +1,6 @@
-ghost use Rattle.std.specs.Prelude.{◌≡◌, ◌⊎◌, Ok, Err, IfOk, IfErr};
-ghost use Rattle.snap_text.specs.Scripts.{script_of};
+ghost use Rattle.std.specs.Prelude.{◌≡◌, ◌⊎◌, Ok, Err, IfOk, IfErr, length, nat_lt};
+ghost use Rattle.snap_text.specs.Lines.{lines};
+ghost use Rattle.snap_text.specs.Scripts.{is_too_long, most_lines, script_of};
 
 use crate::grammar::read_line;
 use crate::split::Lines;
@@ -16,7 +17,7 @@ pub fn read_script(alloc: Global, bytes: &[u8]) -> Result<Script, ScriptFault>
     ensures ok { IfOk result (λ script. script_of bytes.now ≡ Ok script) }
     ensures refused { IfErr result (λ fault. (fault ≡ ScriptFault.Memory) ⊎ (script_of bytes.now ≡ Err fault)) }
 {
-    if bytes.len() > MOST_BYTES || Lines::of(bytes).count() > MOST_LINES {
+    if is_too_long(bytes) {
         return Err(ScriptFault::TooLong);
     }
     let mut script = Script::new(alloc);
@@ -40,4 +41,16 @@ pub fn read_script(alloc: Global, bytes: &[u8]) -> Result<Script, ScriptFault>
         }
     }
     Ok(script)
+}
+
+fn is_too_long(bytes: &[u8]) -> bool
+    ensures { result ≡ is_too_long bytes.now }
+{
+    bytes.len() > MOST_BYTES || has_too_many_lines(bytes)
+}
+
+fn has_too_many_lines(bytes: &[u8]) -> bool
+    ensures { result ≡ nat_lt most_lines (length (lines bytes.now)) }
+{
+    Lines::of(bytes).nth(MOST_LINES).is_some()
 }
