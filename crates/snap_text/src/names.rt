@@ -22,3 +22,37 @@ fn is_file_byte(byte: u8) -> bool
 {
     byte.is_ascii_alphanumeric() || byte == b'_' || byte == b'.' || byte == b'-' || byte == b'/'
 }
+
+#[cfg(test)]
+mod tests {
+    use super::*;
+    use std::test::Fail;
+
+    #[test]
+    fn tells_file_names(rt: HostRuntime) -> Result<(), Fail> {
+        let cases: [(&[u8], bool); 14] = [
+            (b"a", true),
+            (b"a-b/C_9.txt", true),
+            (b"/", true),
+            (b".", true),
+            (b"_-", true),
+            (b"", false),
+            (b"-", false),
+            (b"-a", false),
+            (b"a b", false),
+            (b"a\n", false),
+            (b"a\x00", false),
+            (b"a\xff", false),
+            (b"a@", false),
+            (b"a:", false),
+        ];
+        for (text, want) in cases {
+            assert_eq!(rt; is_file(text), want, "at {text:?}");
+        }
+        let longest = vec![in rt.alloc(); b'a'; 200]?;
+        let too_long = vec![in rt.alloc(); b'a'; 201]?;
+        assert!(rt; is_file(&longest));
+        assert!(rt; !is_file(&too_long));
+        Ok(())
+    }
+}

@@ -35,3 +35,34 @@ fn with_digit(number: u64, digit: u8) -> Option<u64>
 {
     number.checked_mul(10)?.checked_add(u64::from(digit - b'0'))
 }
+
+#[cfg(test)]
+mod tests {
+    use super::*;
+
+    #[test]
+    fn reads_numbers(rt: HostRuntime) {
+        let cases: [(&[u8], Option<u64>); 12] = [
+            (b"0", Some(0)),
+            (b"007", Some(7)),
+            (b"18446744073709551615", Some(18_446_744_073_709_551_615)),
+            (b"0018446744073709551615", Some(18_446_744_073_709_551_615)),
+            (b"18446744073709551616", None),
+            (b"100000000000000000000", None),
+            (b"", None),
+            (b"-1", None),
+            (b"+1", None),
+            (b" 1", None),
+            (b"1a", None),
+            (b"\xff", None),
+        ];
+        for (text, want) in cases {
+            assert_eq!(rt; read_number(text), want, "at {text:?}");
+        }
+        assert_eq!(rt;
+            read_value(b"18446744073709551614"),
+            Some(18_446_744_073_709_551_614)
+        );
+        assert_eq!(rt; read_value(b"18446744073709551615"), None);
+    }
+}

@@ -54,3 +54,6 @@ fn has_too_many_lines(bytes: &[u8]) -> bool
 {
     Lines::of(bytes).nth(MOST_LINES).is_some()
 }
+
+#[cfg(test)]
+mod tests;
