@@ -1,14 +1,13 @@
 -- How a script is read, line by line.
-use Rattle.std.proofs.Common.{◌≡◌, ℕ, ◌+◌, ◌≤◌, List, [], ◌∷◌, ◌++◌, Option, Some, None, Result, Ok, Err, length, refl, sym, ap, ◌∙◌, arith, append_assoc, cond, true, false}
+use Rattle.std.proofs.Common.{◌≡◌, ℕ, ◌+◌, ◌≤◌, List, [], ◌∷◌, ◌++◌, Result, Ok, Err, length, refl, arith, true, false}
 use Rattle.std.proofs.lemmas.List.{append-nil}
-use Rattle.snap_model.specs.declared.command.Command.{Command}
 use Rattle.snap_text.specs.declared.fault.LineKind.{LineKind}
 use Rattle.snap_text.specs.declared.fault.ScriptFault.{ScriptFault}
 use Rattle.snap_text.specs.declared.fault.ScriptFault.TheVariants as fault
 use Rattle.snap_text.specs.declared.script.Line.{Line}
 use Rattle.snap_text.specs.Grammar.{command_of}
 use Rattle.snap_text.specs.Lines.{lines, words}
-use Rattle.snap_text.specs.Scripts.{is_too_long, script_from, script_of, with_line}
+use Rattle.snap_text.specs.Scripts.{is_too_long, script_from, script_of}
 
 -- a script with lines that stand before it
 abbrev pub after_lines : List Line → Result (List Line) ScriptFault → Result (List Line) ScriptFault

@@ -1,9 +1,8 @@
 -- Scripts that are accepted, and scripts that are refused.
-use Rattle.std.specs.Prelude.{◌≡◌, ℕ, List, [], ◌∷◌, ◌++◌, Result, Ok, Err, codes, refl}
+use Rattle.std.specs.Prelude.{◌≡◌, ℕ, [], ◌∷◌, Ok, Err, codes, refl}
 use Rattle.snap_model.specs.declared.command.Command.{Command}
 use Rattle.snap_model.specs.declared.command.Command.TheVariants.{Put, Remove, Get}
 use Rattle.snap_text.specs.declared.fault.LineKind.TheVariants.{UnknownWord, WordCount, BadNumber}
-use Rattle.snap_text.specs.declared.fault.ScriptFault.{ScriptFault}
 use Rattle.snap_text.specs.declared.fault.ScriptFault.TheVariants as fault
 use Rattle.snap_text.specs.declared.script.Line.{Line}
 use Rattle.snap_text.specs.Scripts.{script_of}

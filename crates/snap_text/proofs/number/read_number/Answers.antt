@@ -1,6 +1,6 @@
 use Rattle.std.proofs.Common.{rules, ◌∙◌, ap, arith, inl, inr, Some}
 use Rattle.snap_text.specs.Numbers.{greatest_key}
-use Rattle.snap_text.proofs.Digits.{accept, goes, no_digit, refuse, starts, too_large, whole}
+use Rattle.snap_text.proofs.Digits.{accept, goes, no_digit, starts, too_large, whole}
 use Rattle.snap_text.proofs.number.read_number.Goals as goal
 
 pub loop-digit-init : goal.loop-digit-init

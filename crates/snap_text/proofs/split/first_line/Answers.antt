@@ -1,6 +1,5 @@
-use Rattle.std.proofs.Common.{rules, ◌∷◌, sym, ap, ◌∙◌, add-one}
+use Rattle.std.proofs.Common.{rules, ◌∙◌, add-one}
 use Rattle.std.proofs.lemmas.List.{take_rest}
-use Rattle.snap_text.specs.Lines.{lines}
 use Rattle.snap_text.proofs.Splits.{last_line, line_at}
 use Rattle.snap_text.proofs.split.first_line.Goals as goal
 
