@@ -1,0 +1,13 @@
+-- File names as text.
+use Rattle.std.specs.Prelude.{◌==◌, ◌||◌, ◌&&◌, not, ℕ, Bool, List, length, nat_le, slice_index}
+use Rattle.std.specs.Char.{is_ascii_alphanumeric}
+use Rattle.std.specs.List.{list_all}
+
+-- the byte is a letter, a digit, `_`, `.`, `-` or `/`
+abbrev pub is_file_byte : ℕ → Bool
+is_file_byte b = is_ascii_alphanumeric b || (b == 95) || (b == 46) || (b == 45) || (b == 47)
+
+-- the text is a file name: 1 to 200 such bytes, the first of which is no `-`
+abbrev pub is_file : List ℕ → Bool
+is_file text =
+    nat_le 1 (length text) && nat_le (length text) 200 && list_all is_file_byte text && not (slice_index text 0 == 45)
