@@ -8,5 +8,5 @@ mod service;
 mod session;
 
 pub use receipt::KitReceipt;
-pub use service::{Kit, Service};
+pub use service::{Kit, MOST_ROWS, Service};
 pub use session::Session;

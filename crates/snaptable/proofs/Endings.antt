@@ -1,0 +1,143 @@
+-- How a run ends, by what was found on the way.
+use Rattle.std.specs.Prelude.{◌==◌, ◌↔◌, if◌then◌else◌}
+use Rattle.std.proofs.Common.{◌≡◌, ◌<◌, ◌≤◌, ◌⊎◌, ℕ, List, length, Option, Some, None, Result, Ok, Err, IsErr, refl, sym, ◌∙◌, ap, inl, inr, true, ltb, lt-ltb, arith}
+use Rattle.snap_io.specs.Shelves.{Files, IfTold, OfFile}
+use Rattle.snap_text.specs.declared.script.Line.{Line}
+use Rattle.snap_text.specs.declared.fault.ScriptFault.{ScriptFault}
+use Rattle.snap_text.specs.declared.fault.ScriptFault.TheVariants as script
+use Rattle.snap_text.specs.Scripts.{most_bytes, script_of}
+use Rattle.snaptable.specs.declared.words.Job.{Job}
+use Rattle.snaptable.specs.declared.words.Work.{Work}
+use Rattle.snaptable.specs.declared.words.Work.TheVariants.{Scripts}
+use Rattle.snaptable.specs.declared.words.WordsFault.{WordsFault}
+use Rattle.snaptable.specs.declared.outcome.Stop.{Stop}
+use Rattle.snaptable.specs.declared.outcome.Stop.TheVariants as stop
+use Rattle.snaptable.specs.declared.reading.ReadFault.{ReadFault}
+use Rattle.snaptable.specs.declared.reading.ReadFault.TheVariants as reading
+use Rattle.snaptable.specs.Reading.{IsLonger}
+use Rattle.snaptable.specs.Stops.{status_of, stop_of_reading}
+use Rattle.snaptable.specs.Words.{job_of, one_script, script_name}
+use Rattle.snaptable.specs.Outcomes.{Ending, EndsIn, ForScript, HasStatus, LacksScript, ending_of, ending_of_job, ending_of_file, ending_of_script}
+use Rattle.snaptable.specs.Outcomes.Ending.{WordsRefused, ScriptMissing, ScriptRefused, Complete}
+
+-- a text of too many bytes is refused
+too_long_script : (bytes : List ℕ) → most_bytes < length bytes → script_of bytes ≡ Err script.TooLong
+unfolding script_of
+too_long_script bytes long = let is : ltb most_bytes (length bytes) ≡ true = lt-ltb most_bytes (length bytes) long in rw is refl
+
+pub too_long : (files : Option Files) (ws : List (List ℕ)) (job : Job) → job_of ws ≡ Ok job → IsLonger files (script_name ws) most_bytes → EndsIn ws files ScriptRefused
+too_long None ws job is longer = tt
+too_long (Some f) ws job is longer = rw is (of_file (f (script_name ws)) longer)
+  where
+    of_file : (file : Option (List ℕ)) → OfFile file (λ bytes. most_bytes < length bytes) → ending_of_file file ≡ ScriptRefused
+    of_file None long = absurd long
+    of_file (Some bytes) long = ap ending_of_script (too_long_script bytes long)
+
+pub long_stop : (fault : ReadFault) → stop_of_reading fault ≡ stop.Script → fault ≡ reading.TooLong
+long_stop reading.TooLong is = refl
+long_stop reading.Failed is = absurd cc
+long_stop reading.Memory is = absurd cc
+
+-- a job of one script names one
+abbrev names_in : Work → List (List ℕ)
+names_in (Scripts names) = names
+
+pub one_name : (a b : List ℕ) → one_script a ≡ one_script b → a ≡ b
+one_name a b is = ap (λ (job : Job). script_name (names_in job.work)) is
+
+-- refused words end the run, whatever the files are
+pub words_refused : (ws : List (List ℕ)) (f : Files) → IsErr (job_of ws) → ending_of ws f ≡ WordsRefused
+words_refused ws f refused = of_job (job_of ws) refused
+  where
+    of_job : (r : Result Job WordsFault) → IsErr r → ending_of_job r (f (script_name ws)) ≡ WordsRefused
+    of_job (Ok job) is = absurd cc
+    of_job (Err fault) is = refl
+
+-- a run that went to its end has status 0
+pub status_at_end : (ending : Ending) (script : List Line) (read_fault write_fault : Type 0) → ending ≡ Complete script → HasStatus ending 0 read_fault write_fault
+status_at_end ending script read_fault write_fault is = rw is (inl refl)
+
+-- a run that was stopped has the status of its stop, as its ending allows
+pub status_at_stop : (ending : Ending) (cause : Stop) (read_fault write_fault : Type 0)
+    → (cause ≡ stop.Words → ending ≡ WordsRefused)
+    → (ending ≡ WordsRefused → cause ≡ stop.Words)
+    → (cause ≡ stop.Script → ending ≡ ScriptRefused)
+    → (cause ≡ stop.Read → read_fault ⊎ (ending ≡ ScriptMissing))
+    → (cause ≡ stop.Write → write_fault × ((script : List Line) × (ending ≡ Complete script)))
+    → HasStatus ending (status_of cause) read_fault write_fault
+status_at_stop ending stop.Words rf wf words only refused unread unwritten = rw (words refl) refl
+status_at_stop ending stop.Script rf wf words only refused unread unwritten = rw (refused refl) (inl refl)
+status_at_stop WordsRefused stop.Read rf wf words only refused unread unwritten = absurd (read_is_no_word (only refl))
+  where
+    read_is_no_word : stop.Read ≡ stop.Words → ⊥
+    read_is_no_word is = cc
+status_at_stop ScriptMissing stop.Read rf wf words only refused unread unwritten = inl refl
+status_at_stop ScriptRefused stop.Read rf wf words only refused unread unwritten = elim (unread refl) [ inl rose ↦ inr (inr (refl, rose)) | inr missing ↦ absurd cc ]
+status_at_stop (Complete lines) stop.Read rf wf words only refused unread unwritten = elim (unread refl) [ inl rose ↦ inr (inr (inl (refl, rose))) | inr missing ↦ absurd cc ]
+status_at_stop ending stop.Write rf wf words only refused unread unwritten = let why = unwritten refl in rw why.1.1 (inr (inr (inr (refl, why.0))))
+status_at_stop WordsRefused stop.Memory rf wf words only refused unread unwritten = absurd (memory_is_no_word (only refl))
+  where
+    memory_is_no_word : stop.Memory ≡ stop.Words → ⊥
+    memory_is_no_word is = cc
+status_at_stop ScriptMissing stop.Memory rf wf words only refused unread unwritten = inr refl
+status_at_stop ScriptRefused stop.Memory rf wf words only refused unread unwritten = inr (inl refl)
+status_at_stop (Complete lines) stop.Memory rf wf words only refused unread unwritten = inr (inl refl)
+
+words_only : (ws : List (List ℕ)) (f : Files) → ending_of ws f ≡ WordsRefused → IsErr (job_of ws)
+words_only ws f refused = of_job (job_of ws) refused
+  where
+    of_script : (r : Result (List Line) ScriptFault) → ending_of_script r ≡ WordsRefused → ⊥
+    of_script (Ok lines) is = cc
+    of_script (Err fault) is = cc
+    of_file : (file : Option (List ℕ)) → ending_of_file file ≡ WordsRefused → ⊥
+    of_file None is = cc
+    of_file (Some bytes) is = of_script (script_of bytes) is
+    of_job : (r : Result Job WordsFault) → ending_of_job r (f (script_name ws)) ≡ WordsRefused → IsErr r
+    of_job (Ok job) is = absurd (of_file (f (script_name ws)) is)
+    of_job (Err fault) is = refl
+
+-- the status tells the stop
+abbrev stop_at : ℕ → Stop
+stop_at status = if status == 2 then stop.Words else if status == 3 then stop.Script else if status == 4 then stop.Read else if status == 5 then stop.Write else stop.Memory
+
+stop_at_status : (s : Stop) → stop_at (status_of s) ≡ s
+stop_at_status stop.Words = refl
+stop_at_status stop.Script = refl
+stop_at_status stop.Read = refl
+stop_at_status stop.Write = refl
+stop_at_status stop.Memory = refl
+
+pub same_stop : (s cause : Stop) → status_of s ≡ status_of cause → s ≡ cause
+same_stop s cause is = sym (stop_at_status s) ∙ ap stop_at is ∙ stop_at_status cause
+
+pub status_within : (s : Stop) → (2 ≤ status_of s) × (status_of s ≤ 6)
+status_within stop.Words = (omega arith, omega arith)
+status_within stop.Script = (omega arith, omega arith)
+status_within stop.Read = (omega arith, omega arith)
+status_within stop.Write = (omega arith, omega arith)
+status_within stop.Memory = (omega arith, omega arith)
+
+pub told_at_end : (ws : List (List ℕ)) (files : Option Files) (fact : List Line → Type 0) (read_fault write_fault : Type 0) → ForScript ws files fact → IfTold files (λ f. HasStatus (ending_of ws f) 0 read_fault write_fault)
+told_at_end ws None fact rf wf done = tt
+told_at_end ws (Some f) fact rf wf done = status_at_end (ending_of ws f) done.script rf wf done.is
+
+pub told_at_stop : (ws : List (List ℕ)) (files : Option Files) (fact : List Line → Type 0) (cause : Stop) (read_fault write_fault : Type 0)
+    → ((cause ≡ stop.Words) ↔ IsErr (job_of ws))
+    → (cause ≡ stop.Script → EndsIn ws files ScriptRefused)
+    → (cause ≡ stop.Read → read_fault ⊎ LacksScript ws files)
+    → (cause ≡ stop.Write → write_fault)
+    → (cause ≡ stop.Write → ForScript ws files fact)
+    → IfTold files (λ f. HasStatus (ending_of ws f) (status_of cause) read_fault write_fault)
+told_at_stop ws None fact cause rf wf words refused unread unwritten begun = tt
+told_at_stop ws (Some f) fact cause rf wf words refused unread unwritten begun =
+    status_at_stop (ending_of ws f) cause rf wf (λ is. words_refused ws f (words.0 is)) (λ is. words.1 (words_only ws f is)) refused unread (λ is. (unwritten is, ((begun is).script, (begun is).is)))
+
+-- what the result of a run says of its stop
+abbrev Ended : Type 0
+Ended = Result (Unit {0}) Stop
+
+pub same_error : (a b : Stop) → (let left : Ended = Err a in let right : Ended = Err b in left ≡ right) → a ≡ b
+same_error a b is = cc
+
+pub not_stopped : (u : Unit {0}) (cause : Stop) → (let left : Ended = Ok u in let right : Ended = Err cause in left ≡ right) → ⊥
+not_stopped u cause is = cc

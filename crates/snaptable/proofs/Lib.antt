@@ -1,0 +1,5 @@
+pub mod Commands
+pub mod Fronts
+pub mod Endings
+pub mod Languages
+pub mod Written

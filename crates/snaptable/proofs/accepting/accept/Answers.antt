@@ -1,0 +1,27 @@
+use Rattle.std.proofs.Common.{◌≡◌, List, ℕ, Err, map, ap, sym, ◌∙◌, subst}
+use Rattle.std.specs.Prelude.{string_bytes}
+use Rattle.snap_text.specs.Scripts.{most_bytes}
+use Rattle.snaptable.specs.declared.reading.ReadFault.TheVariants as reading
+use Rattle.snaptable.specs.declared.outcome.Stop.TheVariants as stop
+use Rattle.snaptable.specs.Reading.{IsLonger}
+use Rattle.snaptable.specs.Stops.{stop_of_reading}
+use Rattle.snaptable.specs.Words.{one_script, script_name}
+use Rattle.snaptable.proofs.Languages.{commands_on_table}
+use Rattle.snaptable.proofs.Endings.{long_stop, one_name, too_long}
+use Rattle.snaptable.proofs.accepting.accept.Goals as goal
+
+-- a file that is too long is a refused script
+pub returns-in_err-bytes-clause-refused : goal.returns-in_err-bytes-clause-refused
+returns-in_err-bytes-clause-refused g c is =
+    let files = g.S.Shelf.files c.args.shelf.now in
+    let ws : List (List ℕ) = map string_bytes c.args.words.now in
+    let fault = c.in_err-bytes.field-0.0 in
+    let script : stop_of_reading fault ≡ stop.Script = sym (rw is at c.from_residual-in_err-bytes.ensures.1) in
+    let long : fault ≡ reading.TooLong = long_stop fault script in
+    let longer = c.in_err-bytes.ensures.too_long (ap Err long) in
+    let same : one_script c.script_of-name.result.now ≡ one_script (script_name ws) = sym c.script_of-name.ensures ∙ c.in_ok-job.ensures.one in
+    let name : c.text.result.now ≡ script_name ws = c.text.ensures ∙ one_name _ _ same in
+    too_long files ws c.in_ok-job.job c.in_ok-job.ensures.ok (subst (λ n. IsLonger files n most_bytes) name longer)
+
+pub returns-clause-commands : goal.returns-clause-commands
+returns-clause-commands g c = commands_on_table _ _ c.in_ok-script.ensures.ok

@@ -1,0 +1,19 @@
+-- What the program prints.
+use Rattle.std.specs.Prelude.{ℕ, List, ◌++◌, codes, decimal, length}
+use Rattle.snap_text.specs.declared.script.Line.{Line}
+use Rattle.snap_service.specs.Tables.{Table, empty_table, table_after_all}
+use Rattle.snaptable.specs.Replies.{commands_of}
+
+-- the summary of one script with so many commands on one table
+abbrev pub summary_of : ℕ → ℕ → ℕ → List ℕ
+summary_of commands writes pairs =
+    codes "scripts 1 commands " ++ decimal commands ++ codes " full 0\ntable main writes " ++ decimal writes
+    ++ codes " pairs " ++ decimal pairs ++ codes "\n"
+
+-- the table after a script
+abbrev pub table_of : List Line → Table
+table_of lines = table_after_all empty_table (commands_of lines)
+
+-- the summary of a script
+abbrev pub summary : List Line → List ℕ
+summary lines = summary_of (length lines) (table_of lines).writes (length (table_of lines).map)

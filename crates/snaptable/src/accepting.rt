@@ -1,0 +1,74 @@
+ghost use Rattle.std.specs.Prelude.{◌≡◌, ◌≢◌, ◌≤◌, ◌⊎◌, ◌↔◌, All, map, IfOk, IsErr};
+ghost use Rattle.std.specs.String.{string_bytes};
+ghost use Rattle.snap_io.specs.Causes.{Rose};
+ghost use Rattle.snap_service.specs.Tables.{IsTableCommand};
+ghost use Rattle.snaptable.specs.Words.{IsOneScript, job_of, one_script, script_name};
+ghost use Rattle.snaptable.specs.Replies.{reply_name};
+ghost use Rattle.snaptable.specs.Outcomes.{EndsIn, LacksScript};
+ghost use Rattle.snaptable.specs.Outcomes.Ending.{Complete, ScriptRefused};
+
+use crate::outcome::Stop;
+use crate::reading::read_file;
+use crate::words::{DEFAULT_ROWS, Job, Work, read_words};
+use snap_io::Shelf;
+use snap_model::{Name, OutOfMemory};
+use snap_text::{Script, read_script};
+use std::alloc::Global;
+
+/// The most bytes of a script.
+const MOST_SCRIPT_BYTES: u64 = 4_194_304;
+
+/// A script that was accepted, and the name of the file for its replies.
+#[derive(Debug, Drop)]
+pub struct Accepted {
+    pub script: Script,
+    pub replies: Name,
+    /// The rows of each table.
+    pub rows: u32,
+}
+
+/// Reads the words and the script that they name.
+pub fn accept<S: Shelf>(alloc: Global, words: &[String], shelf: &mut S) -> Result<Accepted, Stop>
+    ensures script { IfOk result (λ accepted. EndsIn (map string_bytes words.now) (S.files shelf.old) (Complete accepted.script)) }
+    ensures commands { IfOk result (λ accepted. All (λ line. IsTableCommand line.command) accepted.script) }
+    ensures replies { IfOk result (λ accepted. accepted.replies ≡ reply_name (script_name (map string_bytes words.now))) }
+    ensures rows { IfOk result (λ accepted. accepted.rows ≡ DEFAULT_ROWS) }
+
+    ensures words { (result ≡ Err Stop.Words) ↔ IsErr (job_of (map string_bytes words.now)) }
+    ensures refused { result ≡ Err Stop.Script → EndsIn (map string_bytes words.now) (S.files shelf.old) ScriptRefused }
+    ensures unread { result ≡ Err Stop.Read → Rose (S.read_faults shelf.old) (S.read_faults shelf.new) ⊎ LacksScript (map string_bytes words.now) (S.files shelf.old) }
+    ensures reads_only { result ≢ Err Stop.Write }
+
+    ensures later { S.read_faults shelf.old ≤ S.read_faults shelf.new }
+    ensures files { S.files shelf.new ≡ S.files shelf.old }
+    ensures writes { S.write_faults shelf.new ≡ S.write_faults shelf.old }
+{
+    let job = read_words(alloc, words)?;
+    let name = script_of(&job);
+    let bytes = read_file(alloc, shelf, name.text(), MOST_SCRIPT_BYTES)?;
+    let script = read_script(alloc, &bytes)?;
+    let replies = reply_name(alloc, name)?;
+    Ok(Accepted {
+        script,
+        replies,
+        rows: job.rows,
+    })
+}
+
+// The script of a job that has one.
+fn script_of(job: &Job) -> &Name
+    requires { IsOneScript job.now }
+    ensures { job.now ≡ one_script result.now }
+{
+    let Work::Scripts { names } = &job.work;
+    &names.list()[0]
+}
+
+// The name of a script's reply file.
+fn reply_name(alloc: Global, script: &Name) -> Result<Name, OutOfMemory>
+    ensures { IfOk result (λ name. name ≡ reply_name script.now) }
+{
+    let script = script.text();
+    let text = format!(in alloc; "{script}.out")?;
+    Name::new(alloc, text.as_str())
+}
