@@ -89,9 +89,11 @@ words_only ws f refused = of_job (job_of ws) refused
     of_script : (r : Result (List Line) ScriptFault) → ending_of_script r ≡ WordsRefused → ⊥
     of_script (Ok lines) is = cc
     of_script (Err fault) is = cc
+
     of_file : (file : Option (List ℕ)) → ending_of_file file ≡ WordsRefused → ⊥
     of_file None is = cc
     of_file (Some bytes) is = of_script (script_of bytes) is
+
     of_job : (r : Result Job WordsFault) → ending_of_job r (f (script_name ws)) ≡ WordsRefused → IsErr r
     of_job (Ok job) is = absurd (of_file (f (script_name ws)) is)
     of_job (Err fault) is = refl

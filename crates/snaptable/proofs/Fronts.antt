@@ -34,8 +34,7 @@ front_grows (Some f) name bytes into n front reads = of_file (f name) front read
     of_file (Some file) front reads =
         let got : length (take n into) ≡ n = ap length reads.0 ∙ length-take-le n (drop (length bytes) file) reads.1 in
         let both : length (bytes ++ take n into) ≡ length bytes + n = length-append bytes (take n into) ∙ ap (λ k. length bytes + k) got in
-        let behind = length-drop (length bytes) file in
-        (
+        let behind = length-drop (length bytes) file in (
           (ap (λ (l : List ℕ). l ++ take n into) front.0 ∙ ap (λ (l : List ℕ). take (length bytes) file ++ l) reads.0 ∙ sym (take-add (length bytes) n file)) ∙ ap (λ k. take k file) (sym both),
           omega (arith, both, behind, reads.1, front.1),
         )

@@ -72,6 +72,7 @@ command_on_table (word ∷ ws) = either (nat_eq (slice_index word 0) 35) (of_fil
     of_filled : (r : Result Command LineKind) → OnTable r → LineOnTable (and_then r (λ c. Ok (Some c)))
     of_filled (Ok c) on = on
     of_filled (Err kind) on = tt
+
     either : (b : Bool) → LineOnTable (and_then (filled (form_of word) ws) (λ c. Ok (Some c))) → LineOnTable (cond b (Ok None) (and_then (filled (form_of word) ws) (λ c. Ok (Some c))))
     either true on = tt
     either false on = on

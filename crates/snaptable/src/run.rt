@@ -28,11 +28,9 @@ pub fn run<R: Threads + Wait + Sync, S: Shelf, K: Sink, T: Turn + Sync>(
     turn: &T,
 ) -> Outcome
     // Where the shelf tells its files, the words and the script decide the status, but for want of memory and faults.
-    ensures status {
-        IfTold (S.files shelf.old) (λ files. HasStatus (ending_of (map string_bytes words.now) files) result.status
-            (Rose (S.read_faults shelf.old) (S.read_faults shelf.new))
-            (Rose (S.write_faults shelf.old) (S.write_faults shelf.new) ⊎ Rose (K.faults sink.old) (K.faults sink.new)))
-    }
+    ensures status { IfTold (S.files shelf.old) (λ files. HasStatus (ending_of (map string_bytes words.now) files) result.status
+        (Rose (S.read_faults shelf.old) (S.read_faults shelf.new))
+        (Rose (S.write_faults shelf.old) (S.write_faults shelf.new) ⊎ Rose (K.faults sink.old) (K.faults sink.new))) }
     ensures statuses { IsStatus result.status }
     ensures words { (result.status ≡ 2) ↔ IsErr (job_of (map string_bytes words.now)) }
     ensures refused { result.status ≡ 3 → EndsIn (map string_bytes words.now) (S.files shelf.old) ScriptRefused }
@@ -74,3 +72,6 @@ fn complete<R: Wait, S: Shelf, K: Sink, T: Turn>(
     let accepted = accept(alloc, words, shelf)?;
     carry_out(rt, alloc, &accepted, shelf, sink, turn)
 }
+
+#[cfg(test)]
+mod tests;

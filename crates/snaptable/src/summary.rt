@@ -14,5 +14,7 @@ pub fn summary_text(
 ) -> Result<String, OutOfMemory>
     ensures { IfOk result (λ text. string_bytes text ≡ summary_of commands writes pairs) }
 {
-    Ok(format!(in alloc; "scripts 1 commands {commands} full 0\ntable main writes {writes} pairs {pairs}\n")?)
+    Ok(format!(in alloc;
+        "scripts 1 commands {commands} full 0\ntable main writes {writes} pairs {pairs}\n"
+    )?)
 }

@@ -44,8 +44,8 @@ returns-in_err-put-clause-cut_off g c =
     let there = subst (λ n. Changes mid new (Appends {T = Unit {0}} {E = Failed} n c.deref.result.now (Ok tt))) c.text-replies.ensures c.in_ok-append.ensures.files in
     let more = subst (λ t. Changes mid new (Appends {T = Unit {0}} {E = Failed} name t (Ok tt))) is there in
     let shown : c.as_bytes.result.now ≡ summary script =
-        c.as_bytes.ensures.value ∙ c.in_ok-printed.ensures
-        ∙ summary_by script _ _ _ (ap length c.lines-script.ensures) (c.in_ok-answers.ensures.writes ∙ ap (λ l. (table_of l).writes) c.lines-script.ensures) (c.in_ok-answers.ensures.pairs ∙ ap (λ l. length (table_of l).map) c.lines-script.ensures) in
+    c.as_bytes.ensures.value ∙ c.in_ok-printed.ensures
+    ∙ summary_by script _ _ _ (ap length c.lines-script.ensures) (c.in_ok-answers.ensures.writes ∙ ap (λ l. (table_of l).writes) c.lines-script.ensures) (c.in_ok-answers.ensures.pairs ∙ ap (λ l. length (table_of l).map) c.lines-script.ensures) in
     let puts = subst (λ p. Puts {T = Unit {0}} {E = Failed} before now p (Err c.in_err-put.field-0.0)) shown c.in_err-put.ensures.bytes in
     on_err _ c.from_residual-in_err-put.result (cut_in name text (summary script) old new before now c.in_err-put.field-0.0 (file_set name text old new (file_whole name text old mid new made more)) puts)
 
@@ -64,7 +64,7 @@ returns-clause-done g c =
     let there = subst (λ n. Changes mid new (Appends {T = Unit {0}} {E = Failed} n c.deref.result.now (Ok tt))) c.text-replies.ensures c.in_ok-append.ensures.files in
     let more = subst (λ t. Changes mid new (Appends {T = Unit {0}} {E = Failed} name t (Ok tt))) is there in
     let shown : c.as_bytes.result.now ≡ summary script =
-        c.as_bytes.ensures.value ∙ c.in_ok-printed.ensures
-        ∙ summary_by script _ _ _ (ap length c.lines-script.ensures) (c.in_ok-answers.ensures.writes ∙ ap (λ l. (table_of l).writes) c.lines-script.ensures) (c.in_ok-answers.ensures.pairs ∙ ap (λ l. length (table_of l).map) c.lines-script.ensures) in
+    c.as_bytes.ensures.value ∙ c.in_ok-printed.ensures
+    ∙ summary_by script _ _ _ (ap length c.lines-script.ensures) (c.in_ok-answers.ensures.writes ∙ ap (λ l. (table_of l).writes) c.lines-script.ensures) (c.in_ok-answers.ensures.pairs ∙ ap (λ l. length (table_of l).map) c.lines-script.ensures) in
     let puts = subst (λ p. Puts {T = Unit {0}} {E = Failed} before now p (Ok tt)) shown c.in_ok-put.ensures.bytes in
     written name text (summary script) old new before now (file_whole name text old mid new made more) puts

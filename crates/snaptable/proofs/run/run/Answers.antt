@@ -17,8 +17,8 @@ pub returns-in-Err-clause-status : goal.returns-in-Err-clause-status
 returns-in-Err-clause-status g c =
     let told = c.in-Err.ensures in
     rw c.status.ensures (
-      told_at_stop _ _ _ c.in-Err.stop _ _ (λ is. told.words.0 (ap Err is), λ refused. same_error _ _ (told.words.1 refused))
-      (λ is. told.refused (ap Err is)) (λ is. told.unread (ap Err is)) (λ is. told.unwritten (ap Err is)) (λ is. told.begun (ap Err is))
+    told_at_stop _ _ _ c.in-Err.stop _ _ (λ is. told.words.0 (ap Err is), λ refused. same_error _ _ (told.words.1 refused))
+    (λ is. told.refused (ap Err is)) (λ is. told.unread (ap Err is)) (λ is. told.unwritten (ap Err is)) (λ is. told.begun (ap Err is))
     )
 
 pub returns-in-Err-clause-words : goal.returns-in-Err-clause-words

@@ -18,6 +18,6 @@ loop-line-preserved g c =
           c.in_ok-reply_line.ensures.ok
           ∙ ap (λ (l : List ℕ). l ++ reply_text line.command c.in_ok-reply.reply) c.loop-line.invariant.replies
           ∙ ap (λ r. reply_lines start.map before ++ reply_text line.command r) (c.in_ok-reply.ensures.reply ∙ ap (λ t. reply_to t.map line.command) c.loop-line.invariant.table)
-      );
+          );
       table = c.in_ok-reply.ensures.table ∙ ap (λ t. table_after t line.command) c.loop-line.invariant.table ∙ sym table ∙ ap (table_after_all start) (sym more);
     }
