@@ -3,3 +3,4 @@ pub mod Fronts
 pub mod Endings
 pub mod Languages
 pub mod Written
+mod Examples
