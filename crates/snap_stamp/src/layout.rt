@@ -5,6 +5,7 @@ use crate::RowNo;
 
 /// The words of a header, and those of a row.
 const HEADER: u64 = 8;
+
 const ROW: u64 = 8;
 
 /// A field of a row: one word.

@@ -9,7 +9,7 @@ mod side;
 mod stamp;
 
 pub use laws::{fields_differ, rows_fit, stamps_have_parts};
-pub use layout::{word_at, words_of, Field};
+pub use layout::{Field, word_at, words_of};
 pub use row::RowNo;
 pub use side::Side;
 pub use stamp::Stamp;

@@ -4,8 +4,11 @@ ghost use Rattle.snap_stamp.specs.Stamps.{IsUnmarked, IsShrinking, IsUnlinked, c
 use std::marker::Model;
 
 const UNLINKED: u64 = 1;
+
 const SHRINKING: u64 = 2;
+
 const COUNT: u64 = 4;
+
 const LAST: u64 = 4_611_686_018_427_387_903;
 
 /// A row's stamp: how many rotations have lowered the row, whether one is lowering it now (the shrinking mark),

@@ -1,0 +1,76 @@
+-- A table at one moment: its memory, and what the rule says beside it.
+use Rattle.std.specs.Prelude.{List, [], ℕ, ◌<◌, ◌∷◌, ◌≡◌, ◌⊎◌}
+use Rattle.snap_model.specs.declared.call.Entry.{Entry}
+use Rattle.snap_stamp.specs.declared.side.Side.{Side}
+use Rattle.snap_stamp.specs.declared.side.Side.TheVariants.{Left, Right}
+use Rattle.snap_rule.specs.Tree.{EachRow, Node, Tree, root, value_word}
+use Rattle.snap_rule.specs.Tree.Tree.{empty, node}
+
+-- what a change in progress has put in the place of a link
+pub data Change : Type 0 where
+  plain : Change
+  unlinking : ℕ → Change
+  lowering : ℕ → Change
+  raising : ℕ → Change
+
+pub record State : Type 0 where
+  pub key : ℕ → ℕ
+  pub birth : ℕ → ℕ
+  pub stamp : ℕ → ℕ
+  pub lock : ℕ → ℕ
+  pub height : ℕ → ℕ
+  pub value : ℕ → ℕ
+  pub link : ℕ → Side → ℕ
+  pub epoch : ℕ
+  pub gate : ℕ
+  pub left : ℕ
+  -- the history, the tree, the rows that were linked, and those that a copy replaced
+  pub history : List Entry
+  pub tree : Tree
+  pub linked : List ℕ
+  pub replaced : List ℕ
+  -- the links as the tree has them, and where a change in progress has other words
+  pub links : ℕ → Side → ℕ
+  pub pending : ℕ → Side → Change
+  -- how many passes are in a write
+  pub writers : ℕ
+
+abbrev pub In : ℕ → List ℕ → Type 0
+In x [] = ⊥
+In x (y ∷ ys) = (x ≡ y) ⊎ In x ys
+
+-- row 0, or a row that was linked
+abbrev pub WasLinked : State → ℕ → Type 0
+WasLinked s n = (n ≡ 0) ⊎ In n s.linked
+
+pub record IsShared (s : State) (n : ℕ) : Type 0 where
+  pub is_row : 0 < n
+  pub older : s.birth n < s.epoch
+
+-- the words of a node's row, but for its links
+pub record Says (s : State) (n : Node) : Type 0 where
+  pub is_row : 0 < n.row
+  pub key : s.key n.row ≡ n.key
+  pub value : s.value n.row ≡ value_word n.value
+  pub height : s.height n.row ≡ n.height
+
+-- the words of the rows of the tree are as the tree says, where the links are these
+abbrev pub Reads : State → (ℕ → Side → ℕ) → Tree → Type 0
+Reads s l empty = Unit {0}
+Reads s l (node n a b) = Says s n × (l n.row Left ≡ root a) × (l n.row Right ≡ root b) × Reads s l a × Reads s l b
+
+-- the tree that is read from a shared row
+pub record IsImage (s : State) (n : ℕ) (t : Tree) : Type 0 where
+  pub top : root t ≡ n
+  pub reads : Reads s s.link t
+  pub rows : EachRow (λ r. In r s.linked × IsShared s r) t
+
+-- what the rule says beside the words
+pub record Beside : Type 0 where
+  pub history : List Entry
+  pub tree : Tree
+  pub linked : List ℕ
+  pub replaced : List ℕ
+  pub links : ℕ → Side → ℕ
+  pub pending : ℕ → Side → Change
+  pub writers : ℕ

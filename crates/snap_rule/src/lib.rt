@@ -1,0 +1,16 @@
+//! The rule of a table without its atomics: what holds of its words, its tree and its history at every moment, what
+//! every step leaves of that to the readers of other passes, and what each kind of step does. A law is the contract of
+//! a function with an empty body; its statement stands in `specs/`.
+#![tactic(auto)]
+
+mod change;
+mod counterexamples;
+mod kinds;
+mod knowledge;
+mod passes;
+mod quiescence;
+mod reader;
+
+pub use change::Doing;
+pub use quiescence::{Load, Trying};
+pub use reader::{Point, Reading};
