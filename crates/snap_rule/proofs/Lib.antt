@@ -26,3 +26,13 @@ pub mod Carried
 pub mod Others
 pub mod Example
 pub mod Step
+pub mod Paths
+pub mod Debts
+pub mod DebtKinds
+pub mod DebtTurns
+pub mod DebtTrees
+pub mod Shallow
+pub mod DebtEnds
+pub mod DebtLoads
+pub mod DebtWhole
+pub mod DebtSteps

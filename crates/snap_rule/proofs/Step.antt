@@ -21,7 +21,7 @@ use Rattle.snap_rule.proofs.Calm.{calm_kept}
 use Rattle.snap_rule.proofs.Carried.{doing_kept}
 
 -- the seat that a step changes, or another
-seat_back : (views : List View) (id j : ℕ) (w u : View) → at_seat (with_seat views id w) j ≡ Some u → ((j ≡ id) × (u ≡ w)) ⊎ (j ≢ id) × (at_seat views j ≡ Some u)
+pub seat_back : (views : List View) (id j : ℕ) (w u : View) → at_seat (with_seat views id w) j ≡ Some u → ((j ≡ id) × (u ≡ w)) ⊎ (j ≢ id) × (at_seat views j ≡ Some u)
 seat_back [] id j w u e = inr ((λ q. cc e), e)
 seat_back (v ∷ vs) zero zero w u e = inl (refl, cc e)
 seat_back (v ∷ vs) zero (suc j) w u e = inr ((λ q. omega (arith, q)), e)

@@ -21,3 +21,17 @@ pub mod KindLaws
 pub mod KnowledgeLaws
 pub mod ChangeLaws
 pub mod StepLaws
+pub mod Settled
+pub mod Room
+pub mod Debt
+pub mod DebtStep
+pub mod DebtLists
+pub mod DebtKinds
+pub mod DebtKindLaws
+pub mod DebtLaws
+pub mod SettledLaws
+pub mod Heights
+pub mod HeightLaws
+pub mod DebtExamples
+pub mod DebtViews
+pub mod DebtStepLaws

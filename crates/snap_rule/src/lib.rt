@@ -5,12 +5,18 @@
 
 mod change;
 mod counterexamples;
+mod debt;
+mod heights;
 mod kinds;
 mod knowledge;
+mod owing;
+mod owing_passes;
 mod passes;
 mod quiescence;
 mod reader;
+mod settled;
 
 pub use change::Doing;
+pub use debt::{Debt, Mark};
 pub use quiescence::{Load, Trying};
 pub use reader::{Point, Reading};

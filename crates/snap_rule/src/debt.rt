@@ -1,0 +1,57 @@
+ghost use Rattle.snap_rule.specs.DebtLaws.{DebtSet, DebtSteps, FitsKept, FreeKnown, KeylessOwes, TurnsKept, UnderRoom, UnmarkedStays};
+
+use std::collections::LinkedList;
+
+/// A row on a list, with the stamp that it had then.
+pub struct Mark {
+    pub row: u64,
+    pub stamp: u64,
+}
+
+/// What a pass in a write owes to the balance of the tree: the key on whose search path its rows stand, the rows, and
+/// the row that it has marked as shrinking and not yet cleared.
+pub struct Debt {
+    pub to_do: Option<u64>,
+    pub list: LinkedList<Mark>,
+    pub turning: Option<u64>,
+}
+
+/// One law for the debts at a step: the stepping pass accounts for each row of the new tree.
+pub fn debt_steps()
+    ensures { DebtSteps }
+{}
+
+/// Debts are spoken of only while there is room, so a law under room before the step serves.
+pub fn under_room()
+    ensures { UnderRoom }
+{}
+
+/// A row that a pass holds is turned by no other pass.
+pub fn free_known()
+    ensures { FreeKnown }
+{}
+
+/// The row that a pass turns stays locked by it.
+pub fn turns_kept()
+    ensures { TurnsKept }
+{}
+
+/// A live row without a mark stays on its paths while its stamp stays, at every step but a cut.
+pub fn unmarked_stays()
+    ensures { UnmarkedStays }
+{}
+
+/// A pass without a to-do key owes nothing.
+pub fn keyless_owes()
+    ensures { KeylessOwes }
+{}
+
+/// Debts that are kept in a list of passes.
+pub fn debt_set()
+    ensures { DebtSet }
+{}
+
+/// Another pass's step keeps a debt: the rows that are owed stay live and on their path.
+pub fn fits_kept()
+    ensures { FitsKept }
+{}
