@@ -9,10 +9,10 @@ use Rattle.snap_stamp.specs.declared.side.Side.TheVariants.{Left, Right}
 use Rattle.snap_rule.specs.Tree.Tree.{empty, node}
 use Rattle.snap_rule.specs.State.{State, In, WasLinked, IsShared, Reads}
 use Rattle.snap_stamp.specs.Stamps.{IsUnmarked}
-use Rattle.snap_rule.specs.Evolves.{Evolves, SameRow, IsPlaced}
-use Rattle.snap_rule.specs.Quiescence.{QuietOk, Calm, CalmOk, HasLoad, word, IsSo}
+use Rattle.snap_rule.specs.Evolves.{Evolves, SameRow}
+use Rattle.snap_rule.specs.Position.{IsPlaced, PlaceOk}
+use Rattle.snap_rule.specs.Quiescence.{QuietOk, IsCalm, CalmOk, HasLoad, word, IsSo}
 use Rattle.snap_rule.specs.declared.quiescence.Load.{Load}
-use Rattle.snap_rule.specs.Reader.{PlaceOk}
 use Rattle.snap_rule.specs.Rule.{TreeOk, ChangesOk, NoneWrites, Fits}
 use Rattle.snap_rule.proofs.Trees.{reads_same, each_at, each_stands}
 
@@ -49,8 +49,8 @@ pub record CalmRow (s : State) (low high c : ℕ) : Type 0 where
   pub unmarked : IsUnmarked (s.stamp c)
   pub above : low ≤ s.key c
   pub below : s.key c < high
-  pub on_left : Calm s low (s.key c) (s.link c Left)
-  pub on_right : Calm s (s.key c + 1) high (s.link c Right)
+  pub on_left : IsCalm s low (s.key c) (s.link c Left)
+  pub on_right : IsCalm s (s.key c + 1) high (s.link c Right)
 
 calm_node : (s : State) (low high c : ℕ) (t : Tree) → c ≢ 0 → root t ≡ c → Reads s s.link t → Between low high t → EachRow (λ r. In r s.linked × IsUnmarked (s.stamp r)) t → CalmRow s low high c
 calm_node s low high c empty z e r o u = absurd (z (sym e))
@@ -64,7 +64,7 @@ calm_node s low high c (node m a b) z e r o u =
       on_right = record { part = b; top = sym r.2 ∙ ap (λ (x : ℕ). s.link x Right) e; reads = r.4; ordered = subst (λ (x : ℕ). Between (x + 1) high b) k o.3; rows = u.2 };
     }
 
-pub calm_row : (s : State) (low high c : ℕ) → c ≢ 0 → Calm s low high c → CalmRow s low high c
+pub calm_row : (s : State) (low high c : ℕ) → c ≢ 0 → IsCalm s low high c → CalmRow s low high c
 calm_row s low high c z a = calm_node s low high c a.part z a.top a.reads a.ordered a.rows
 
 -- a place that a write found stays one while nothing is cut
@@ -99,7 +99,7 @@ load_so s x (y ∷ l) (inr h) e = load_so s x l h e.1
 entered_since : (s : State) (ended : ℕ) (l : List Load) → QuietOk s ended l → (s.gate / 2 ≡ ended → ⊥) → ended < s.gate / 2
 entered_since s ended l q z = let a = q.few in dite (ℕ_discrete (s.gate / 2) ended) (λ e. absurd (z e)) (λ e. omega arith)
 
-no_trouble : (s : State) (low high c : ℕ) → c ≢ 0 → Calm s low high c → ¬ IsUnmarked (s.stamp c) ⊎ (s.key c < low) ⊎ (high ≤ s.key c) → ⊥
+no_trouble : (s : State) (low high c : ℕ) → c ≢ 0 → IsCalm s low high c → ¬ IsUnmarked (s.stamp c) ⊎ (s.key c < low) ⊎ (high ≤ s.key c) → ⊥
 no_trouble s low high c z a (inl m) = m (calm_row s low high c z a).unmarked
 no_trouble s low high c z a (inr (inl m)) = let r = (calm_row s low high c z a).above in omega arith
 no_trouble s low high c z a (inr (inr m)) = let r = (calm_row s low high c z a).below in omega arith

@@ -1,4 +1,11 @@
 -- One law for the debts at a step, and what its parts have in common.
+pub mod Kinds
+pub mod Turns
+pub mod Trees
+pub mod Ends
+pub mod Loads
+pub mod Whole
+pub mod Steps
 use Rattle.std.proofs.Common.{◌≡◌, ◌≢◌, ℕ, zero, suc, ◌≤◌, ◌⊎◌, inl, inr, List, [], ◌∷◌, Some, eqb, eq-eqb, ne_eqb, true, false, refl, ap, ap₂, sym, ◌∙◌, subst, arith}
 use Rattle.std.specs.Prelude.{max}
 use native.Mathlib.Decide.{ℕ_discrete}
@@ -8,12 +15,12 @@ use Rattle.snap_rule.specs.Tree.{Stands}
 use Rattle.snap_stamp.specs.declared.side.Side.TheVariants.{Left, Right}
 use Rattle.snap_rule.specs.State.{State, In}
 use Rattle.snap_rule.specs.Rule.{IsLive}
-use Rattle.snap_rule.specs.DebtStep.{DebtEvolves, Stays, DebtStep}
+use Rattle.snap_rule.specs.Debt.Step.{DebtEvolves, Stays, DebtStep}
 use Rattle.snap_rule.specs.Settled.{one_more, child_height, IsSettled}
 use Rattle.snap_rule.specs.declared.debt.Mark.{Mark}
 use Rattle.snap_rule.specs.declared.debt.Debt.{Debt}
 use Rattle.snap_rule.specs.Debt.{no_debt, IsListed, Owes, OnPath, DebtFits, IsOwed, DebtOk}
-use Rattle.snap_rule.specs.DebtLists.{noted, taken, aimed}
+use Rattle.snap_rule.specs.Debt.Lists.{noted, taken, aimed}
 
 -- a row with the same words and the same heights below it
 pub settled_same : (s s' : State) (n n' : ℕ) → s'.height n' ≡ s.height n → (s.value n ≢ 0 → s'.value n' ≢ 0) → ((d : Side) → s.links n d ≢ 0 → s'.links n' d ≢ 0) → ((d : Side) → child_height s' n' d ≡ child_height s n d) → IsSettled s n → IsSettled s' n'

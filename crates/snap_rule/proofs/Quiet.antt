@@ -7,8 +7,8 @@ use Rattle.snap_stamp.specs.declared.layout.Field.{Field}
 use Rattle.snap_rule.specs.Quiescence.{word, IsSo, QuietOk}
 use Rattle.snap_rule.specs.declared.quiescence.Load.{Load}
 use Rattle.snap_stamp.specs.declared.layout.Field.TheVariants.{Key, Birth, Stamp, Lock, Height, Left, Right, Value}
-use Rattle.snap_stamp.specs.declared.side.Side.TheVariants as sides
 use Rattle.snap_rule.specs.Rule.{CountsOk}
+use Rattle.snap_stamp.specs.declared.side.Side.TheVariants as sides
 
 word_same : (s s' : State) (n : ℕ) (f : Field) → SameRow s s' n × (s'.lock n ≡ s.lock n) → word s' n f ≡ word s n f
 word_same s s' n Key h = h.0.key

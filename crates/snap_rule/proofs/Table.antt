@@ -6,26 +6,26 @@ use Rattle.snap_rule.specs.Tree.{Stands, OnWay, find, value_word}
 use Rattle.snap_stamp.specs.declared.side.Side.{Side}
 use Rattle.snap_rule.specs.State.{State, In, WasLinked, IsShared}
 use Rattle.snap_rule.specs.Rule.{TableOk, IsLive, Fits}
-use Rattle.snap_rule.specs.EntryKinds.{value_stored, MayStore, leaf_linked, MayLeaf, absent_confirmed, MayConfirm}
-use Rattle.snap_rule.specs.CloneKinds.{cut, MayCut, copy_linked, MayCopy}
-use Rattle.snap_rule.specs.UnlinkKinds.{unlinked_marked, MayUnlink, spliced, MaySplice}
-use Rattle.snap_rule.specs.RotationKinds.{shrinking_marked, MayShrink, lowered_linked, MayLower, raised_linked, MayLift, parent_linked, MayRaise, shrinking_cleared, MayClear}
-use Rattle.snap_rule.specs.WordKinds.{height_stored, own_stored, MayOwn, lock_stored, header_stored, MayCount}
+use Rattle.snap_rule.specs.Kinds.Entries.{value_stored, MayStore, leaf_linked, MayLeaf, absent_confirmed, MayConfirm}
+use Rattle.snap_rule.specs.Kinds.Clones.{cut, MayCut, copy_linked, MayCopy}
+use Rattle.snap_rule.specs.Kinds.Unlinking.{unlinked_marked, MayUnlink, spliced, MaySplice}
+use Rattle.snap_rule.specs.Kinds.Rotation.{shrinking_marked, MayShrink, lowered_linked, MayLower, raised_linked, MayLift, parent_linked, MayRaise, shrinking_cleared, MayClear}
+use Rattle.snap_rule.specs.Kinds.Words.{height_stored, own_stored, MayOwn, lock_stored, header_stored, MayCount}
 use native.Mathlib.Decide.{ℕ_discrete}
 use mathlib.Core.Logic.{dite}
 use Rattle.snap_rule.specs.State.Change.{plain}
 use Rattle.snap_rule.specs.Evolves.{Evolves}
-use Rattle.snap_rule.specs.Reader.{Faces}
+use Rattle.snap_rule.specs.Position.{Faces}
 use Rattle.snap_rule.proofs.Maps.{told_same, told_other}
-use Rattle.snap_rule.proofs.Steps.{word_none}
-use Rattle.snap_rule.proofs.Loads.{own_told, stands_there, tree_absent, tree_below}
+use Rattle.snap_rule.proofs.Evolving.Telling.{word_none}
+use Rattle.snap_rule.proofs.Readers.Loads.{own_told, stands_there, tree_absent, tree_below}
 use Rattle.snap_rule.proofs.Updates.{changed_other}
 use Rattle.snap_rule.proofs.Trees.{reads_same}
-use Rattle.snap_rule.proofs.Linked.{store_links, height_links, cut_links, unlink_links, shrink_links, clear_links, splice_links, lower_links, lift_links, raise_links, copy_links, leaf_links, store_sharing, height_sharing, cut_sharing, unlink_sharing, shrink_sharing, clear_sharing, splice_sharing, lower_sharing, lift_sharing, raise_sharing, copy_sharing, leaf_sharing, sharing_kept}
-use Rattle.snap_rule.proofs.Changes.{store_changes, height_changes, cut_changes, unlink_changes, shrink_changes, clear_changes, splice_changes, lower_changes, lift_changes, raise_changes, copy_changes, leaf_changes, fits_kept, live_on}
-use Rattle.snap_rule.proofs.Present.{store_present, height_present, cut_present, unlink_present, splice_present, shrink_present, lower_present, lift_present, raise_present, clear_present, copy_present, leaf_present}
-use Rattle.snap_rule.proofs.Whole.{store_tree, height_tree, cut_tree, unlink_tree, shrink_tree, clear_tree, splice_tree, lower_tree, lift_tree, raise_tree, copy_tree, leaf_tree, at_parent}
-use Rattle.snap_rule.proofs.Silent.{linked_other}
+use Rattle.snap_rule.proofs.Parts.Links.{store_links, height_links, cut_links, unlink_links, shrink_links, clear_links, splice_links, lower_links, lift_links, raise_links, copy_links, leaf_links, store_sharing, height_sharing, cut_sharing, unlink_sharing, shrink_sharing, clear_sharing, splice_sharing, lower_sharing, lift_sharing, raise_sharing, copy_sharing, leaf_sharing, sharing_kept}
+use Rattle.snap_rule.proofs.Parts.Changes.{store_changes, height_changes, cut_changes, unlink_changes, shrink_changes, clear_changes, splice_changes, lower_changes, lift_changes, raise_changes, copy_changes, leaf_changes, fits_kept, live_on}
+use Rattle.snap_rule.proofs.Parts.Present.{store_present, height_present, cut_present, unlink_present, splice_present, shrink_present, lower_present, lift_present, raise_present, clear_present, copy_present, leaf_present}
+use Rattle.snap_rule.proofs.Parts.Tree.{store_tree, height_tree, cut_tree, unlink_tree, shrink_tree, clear_tree, splice_tree, lower_tree, lift_tree, raise_tree, copy_tree, leaf_tree, at_parent}
+use Rattle.snap_rule.proofs.Evolving.Silent.{linked_other}
 
 module _ (s : State) (ok : TableOk s) where
   pub store_keeps : (row : ℕ) (e : Entry) → MayStore s row e → TableOk (value_stored s row e)

@@ -1,4 +1,12 @@
 -- Searches in trees, and trees that are read from words.
+pub mod Ways
+pub mod Rows
+pub mod Unique
+pub mod Orders
+pub mod Finds
+pub mod Readings
+pub mod Paths
+pub mod Shallow
 use Rattle.std.proofs.Common.{◌≡◌, ℕ, ◌+◌, ◌<◌, ◌≤◌, ◌≢◌, inl, inr, None, refl, ap, sym, ◌∙◌, arith}
 use Rattle.std.proofs.lemmas.Bool.Decides.{nat_tests}
 use Rattle.snap_rule.specs.Tree.{Node, Tree, root, find, Stands, OnWay, value_word, EachRow, Between}

@@ -1,4 +1,9 @@
--- What the passes in a write owe to the balance of the tree.
+-- Repair debt. A pass in a write may leave rows unsettled for a while; it then owes them, by a list of rows with the
+-- stamps that they had and by a key on whose path they all stand.
+pub mod Lists
+pub mod Step
+pub mod Kinds
+pub mod Views
 use Rattle.std.specs.Prelude.{List, None, Some, [], ℕ, ◌+◌, ◌∷◌, ◌≡◌, ◌≤◌, ◌⊎◌}
 use Rattle.snap_rule.specs.Rule.{IsLive}
 use Rattle.snap_rule.specs.Settled.{IsSettled}

@@ -1,12 +1,12 @@
--- How a table changes from one moment to a later one, as far as other passes' readers need it.
-use Rattle.std.specs.Prelude.{List, None, ℕ, ◌/◌, ◌≡◌, ◌≢◌, ◌≤◌, ◌⊎◌}
+-- How a table changes from one moment to any later one. All that readers of other passes rest on is in it: what only
+-- grows, what stays, that stamps rise as numbers, and what is known where a stamp, a mark or a value changes.
+use Rattle.std.specs.Prelude.{None, ℕ, ◌/◌, ◌≡◌, ◌≢◌, ◌≤◌}
 use Rattle.snap_model.specs.History.{Begins, told}
-use Rattle.snap_model.specs.declared.call.Entry.{Entry}
 use Rattle.snap_stamp.specs.Stamps.{IsUnlinked, IsUnmarked}
 use Rattle.snap_stamp.specs.declared.side.Side.{Side}
-use Rattle.snap_rule.specs.Moments.{AtSome}
-use Rattle.snap_rule.specs.State.{In, IsImage, IsShared, State, WasLinked}
-use Rattle.snap_rule.specs.Tree.{OnWay, Tree, find, value_word}
+use Rattle.snap_rule.specs.Position.{IsPlaced}
+use Rattle.snap_rule.specs.State.{In, IsShared, State, WasLinked}
+use Rattle.snap_rule.specs.Tree.{OnWay, value_word}
 
 -- the words of a row are the same, but for its lock
 pub record SameRow (s s' : State) (n : ℕ) : Type 0 where
@@ -16,17 +16,6 @@ pub record SameRow (s s' : State) (n : ℕ) : Type 0 where
   pub height : s'.height n ≡ s.height n
   pub value : s'.value n ≡ s.value n
   pub link : (d : Side) → s'.link n d ≡ s.link n d
-
--- a search for k may stand at a shared row: its image tells what some history of those between told
-pub record OnImage (s : State) (seen : List Entry) (n k : ℕ) : Type 0 where
-  pub shared : IsShared s n
-  pub image : Tree
-  pub is_image : IsImage s n image
-  pub tells : AtSome seen s.history (λ p. find image k ≡ told p k)
-
--- a search for k may stand at this row
-abbrev pub IsPlaced : State → List Entry → ℕ → ℕ → Type 0
-IsPlaced s seen n k = (n ≡ 0) ⊎ (¬ IsShared s n) × OnWay s.tree k n ⊎ OnImage s seen n k
 
 pub record Evolves (s s' : State) : Type 0 where
   -- 1. what only grows, and what stays

@@ -1,4 +1,4 @@
--- What a pass has loaded, under its lock, of a row and of the heights below it.
+-- What a pass has loaded under its lock of a row and of the heights below it.
 use Rattle.std.specs.Prelude.{max, ℕ, ◌+◌, ◌≡◌, ◌≢◌, ◌≤◌, ◌⊎◌}
 use Rattle.snap_stamp.specs.declared.side.Side.{Side}
 use Rattle.snap_stamp.specs.declared.side.Side.TheVariants.{Left, Right}

@@ -1,4 +1,4 @@
--- Some history between two others.
+-- Some moment of the history: what a reader answers held at one between what it had seen and now.
 use Rattle.std.specs.Prelude.{List}
 use Rattle.snap_model.specs.History.{Begins}
 use Rattle.snap_model.specs.declared.call.Entry.{Entry}

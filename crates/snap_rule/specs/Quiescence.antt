@@ -1,13 +1,14 @@
--- What a call of `try_get` knows where no write was entered since it began.
+-- Quiescence: what a call of `try_get` knows while no write was entered since it began. Each word that it loaded is
+-- as it was, and the tree below the link at which it stands is ordered and has no marks.
 use Rattle.std.specs.List.{AllByRecursion as Every}
 use Rattle.std.specs.Prelude.{List, [], ℕ, ◌/◌, ◌∷◌, ◌≡◌, ◌≤◌, ◌⊎◌}
 use Rattle.snap_stamp.specs.Stamps.{IsUnmarked}
 use Rattle.snap_stamp.specs.declared.layout.Field.{Field}
-use Rattle.snap_stamp.specs.declared.layout.Field.TheVariants.{Key, Birth, Stamp, Lock, Height, Left, Right, Value}
-use Rattle.snap_stamp.specs.declared.side.Side.TheVariants as sides
-use Rattle.snap_rule.specs.declared.quiescence.Load.{Load}
+use Rattle.snap_stamp.specs.declared.layout.Field.TheVariants.{Birth, Height, Key, Left, Lock, Right, Stamp, Value}
 use Rattle.snap_rule.specs.State.{In, Reads, State, WasLinked}
 use Rattle.snap_rule.specs.Tree.{Between, EachRow, Tree, root}
+use Rattle.snap_rule.specs.declared.quiescence.Load.{Load}
+use Rattle.snap_stamp.specs.declared.side.Side.TheVariants as sides
 
 -- the word of a row's field
 abbrev pub word : State → ℕ → Field → ℕ
@@ -29,7 +30,7 @@ pub record QuietOk (s : State) (ended : ℕ) (loads : List Load) : Type 0 where
   pub quiet : s.gate / 2 ≡ ended → (s.writers ≡ 0) × Every (IsSo s) loads
 
 -- the words below a link are an ordered tree of rows without marks
-pub record Calm (s : State) (low high c : ℕ) : Type 0 where
+pub record IsCalm (s : State) (low high c : ℕ) : Type 0 where
   pub part : Tree
   pub top : root part ≡ c
   pub reads : Reads s s.link part
@@ -38,7 +39,7 @@ pub record Calm (s : State) (low high c : ℕ) : Type 0 where
 
 -- so it is where no write was entered since
 abbrev pub CalmOk : State → (ended low high c : ℕ) → Type 0
-CalmOk s ended low high c = s.gate / 2 ≡ ended → Calm s low high c
+CalmOk s ended low high c = s.gate / 2 ≡ ended → IsCalm s low high c
 
 -- what was loaded in this call
 abbrev pub HasLoad : Load → List Load → Type 0

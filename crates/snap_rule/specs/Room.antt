@@ -1,4 +1,4 @@
--- Whether rows and counts are left, so that a repair can go on.
+-- Whether repair can go on: rows are left to be drawn, and no stamp is at its greatest count.
 use Rattle.std.specs.Prelude.{ℕ, ◌/◌, ◌<◌, ◌≤◌, ◌⊎◌}
 use Rattle.snap_rule.specs.State.{State, WasLinked}
 

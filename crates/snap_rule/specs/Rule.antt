@@ -1,4 +1,5 @@
--- The parts of the rule that speak of no pass.
+-- The parts of the rule that speak of no pass: the tree and its history, which rows stand in it, where links lead,
+-- which rows are shared, which links a change in progress has already moved, and the counts of the header.
 use Rattle.std.specs.Prelude.{[], ℕ, ◌+◌, ◌/◌, ◌^◌, ◌≡◌, ◌≢◌, ◌≤◌, ◌⊎◌}
 use Rattle.snap_model.specs.History.{told}
 use Rattle.snap_stamp.specs.Stamps.{IsShrinking, IsUnlinked, IsUnmarked}

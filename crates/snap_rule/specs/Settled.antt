@@ -1,4 +1,4 @@
--- When a row, and when a tree, is settled; how deep a settled tree can be.
+-- Balance: when a row is settled, when a tree is, and how many nodes a settled tree of some depth has at least.
 use Rattle.std.specs.Prelude.{None, Option, Some, [], max, min, suc, zero, ℕ, ◌++◌, ◌+◌, ◌∷◌, ◌≡◌, ◌≢◌, ◌≤◌, ◌⊎◌}
 use Rattle.snap_model.specs.SortedMap.{Pairs}
 use Rattle.snap_stamp.specs.declared.side.Side.{Side}

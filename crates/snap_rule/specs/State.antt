@@ -1,4 +1,6 @@
--- A table at one moment: its memory, and what the rule says beside it.
+-- A table at one moment. Its memory is a function for each field of a row and a number for each word of the header;
+-- beside it stands what the rule alone speaks of: the history, the tree, the rows that were linked, those that a copy
+-- replaced, the links as the tree has them, and how many passes are in a write.
 use Rattle.std.specs.Prelude.{List, [], ℕ, ◌<◌, ◌∷◌, ◌≡◌, ◌⊎◌}
 use Rattle.snap_model.specs.declared.call.Entry.{Entry}
 use Rattle.snap_stamp.specs.declared.side.Side.{Side}

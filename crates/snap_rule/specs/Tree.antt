@@ -1,4 +1,5 @@
--- Search trees whose nodes have row numbers.
+-- A search tree whose nodes have row numbers, with what is read off it: the value at a key, the rows on the way to
+-- a key, and the order of its keys. It is a value of its own and reads no memory.
 use Rattle.std.specs.Prelude.{None, Option, Some, if◌then◌else◌, nat_lt, suc, zero, ℕ, ◌+◌, ◌<◌, ◌==◌, ◌≡◌, ◌≤◌, ◌⊎◌}
 
 pub record Node : Type 0 where

@@ -1,4 +1,5 @@
--- What the kinds of step do to the tree.
+-- What the steps do to a tree, as functions of it: another value or height at a row, another row in a row's place, a
+-- row taken out, a child raised above its parent, a leaf hung below a row.
 use Rattle.std.specs.Prelude.{Option, if◌then◌else◌, ℕ, ◌==◌}
 use Rattle.snap_model.specs.History.{call_key, call_value}
 use Rattle.snap_model.specs.declared.call.Entry.{Entry}

@@ -1,4 +1,4 @@
--- Functions and links with one place changed.
+-- Functions and links that are changed at one place.
 use Rattle.std.specs.Prelude.{if◌then◌else◌, ℕ, ◌==◌}
 use Rattle.snap_stamp.specs.declared.side.Side.{Side}
 use Rattle.snap_stamp.specs.declared.side.Side.TheVariants.{Left, Right}

@@ -1,18 +1,17 @@
--- What passes know of the table.
+-- What passes know of the table, each for itself, and what the step of one leaves to the others.
 use Rattle.std.specs.Prelude.{List, None, Option, Some, [], suc, zero, ℕ, ◌+◌, ◌∷◌, ◌≡◌, ◌≢◌}
 use Rattle.snap_model.specs.History.{Begins}
 use Rattle.snap_model.specs.declared.call.Entry.{Entry}
 use Rattle.snap_rule.specs.Doing.{Apart, Concerns, DoingOk}
 use Rattle.snap_rule.specs.Quiescence.{CalmOk, QuietOk}
-use Rattle.snap_rule.specs.declared.quiescence.Load.{Load}
 use Rattle.snap_rule.specs.Reader.{StageOk}
 use Rattle.snap_rule.specs.Rule.{TableOk}
 use Rattle.snap_rule.specs.State.{State, WasLinked}
-use Rattle.snap_rule.specs.declared.quiescence.Trying.{Trying}
-use Rattle.snap_rule.specs.declared.quiescence.Trying.TheVariants.{Idle as no_try, Since as trying}
 use Rattle.snap_rule.specs.declared.change.Doing.{Doing}
+use Rattle.snap_rule.specs.declared.quiescence.Trying.{Trying}
+use Rattle.snap_rule.specs.declared.quiescence.Trying.TheVariants.{Idle, Since}
 use Rattle.snap_rule.specs.declared.reader.Reading.{Reading}
-use Rattle.snap_rule.specs.declared.reader.Reading.TheVariants.{On as reading, Resting as resting}
+use Rattle.snap_rule.specs.declared.reader.Reading.TheVariants.{On, Resting}
 
 -- whether it is in a call of `try_get`: what it loaded, and the bounds of what is below the link at which it stands
 pub record View : Type 0 where
@@ -23,12 +22,12 @@ pub record View : Type 0 where
   pub doing : Doing
 
 abbrev pub ReadingOk : State → List Entry → Reading → Type 0
-ReadingOk s seen resting = Unit {0}
-ReadingOk s seen (reading k t) = StageOk s seen k t
+ReadingOk s seen Resting = Unit {0}
+ReadingOk s seen (On k t) = StageOk s seen k t
 
 abbrev pub TryingOk : State → Trying → Type 0
-TryingOk s no_try = Unit {0}
-TryingOk s (trying ended l low high c) = QuietOk s ended l × CalmOk s ended low high c
+TryingOk s Idle = Unit {0}
+TryingOk s (Since ended l low high c) = QuietOk s ended l × CalmOk s ended low high c
 
 pub record ViewOk (s : State) (v : View) : Type 0 where
   pub seen : Begins v.seen s.history

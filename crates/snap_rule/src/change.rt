@@ -1,4 +1,4 @@
-ghost use Rattle.snap_rule.specs.ChangeLaws.{ClearDoing, DoingKept, LiftDoing, LowerDoing, OthersLeave, RaiseDoing, ShrinkDoing, SpliceDoing, UnlinkDoing};
+ghost use Rattle.snap_rule.specs.Laws.Changes.{ClearDoing, DoingKept, LiftDoing, LowerDoing, OthersLeave, RaiseDoing, ShrinkDoing, SpliceDoing, UnlinkDoing};
 
 use snap_stamp::Side;
 

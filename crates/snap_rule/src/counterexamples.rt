@@ -1,5 +1,4 @@
-ghost use Rattle.snap_rule.specs.Example.{LeavesWay};
-ghost use Rattle.snap_rule.specs.DebtExamples.{EarlyStamp, ListedLeaves};
+ghost use Rattle.snap_rule.specs.Examples.{LeavesWay, EarlyStamp, ListedLeaves};
 
 /// Why a place of the tree is only claimed to stay while its stamp has no mark.
 pub fn lowered_leaves()

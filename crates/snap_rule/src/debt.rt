@@ -1,4 +1,4 @@
-ghost use Rattle.snap_rule.specs.DebtLaws.{DebtSet, DebtSteps, FitsKept, FreeKnown, KeylessOwes, TurnsKept, UnderRoom, UnmarkedStays};
+ghost use Rattle.snap_rule.specs.Laws.Debts.{DebtSet, DebtSteps, FitsKept, FreeKnown, KeylessOwes, TurnsKept, UnderRoom, UnmarkedStays};
 
 use std::collections::LinkedList;
 

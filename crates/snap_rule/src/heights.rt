@@ -1,4 +1,4 @@
-ghost use Rattle.snap_rule.specs.HeightLaws.{ChildLoaded, HeightsApart, HeightsHeight, HeldWords, LoadedKept, LoadedSettled};
+ghost use Rattle.snap_rule.specs.Laws.Heights.{ChildLoaded, HeightsApart, HeightsHeight, HeldWords, LoadedKept, LoadedSettled};
 
 /// A step that leaves a row alone and stores no height keeps the heights below the row.
 pub fn heights_apart()

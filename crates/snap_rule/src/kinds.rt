@@ -1,4 +1,4 @@
-ghost use Rattle.snap_rule.specs.KindLaws.{AbsentKeeps, ClearKeeps, CopyKeeps, CutKeeps, HeaderKeeps, HeightKeeps, LeafKeeps, LiftKeeps, LockKeeps, LowerKeeps, Opens, OwnKeeps, RaiseKeeps, ShrinkKeeps, SpliceKeeps, StoreKeeps, UnlinkKeeps};
+ghost use Rattle.snap_rule.specs.Laws.Kinds.{AbsentKeeps, ClearKeeps, CopyKeeps, CutKeeps, HeaderKeeps, HeightKeeps, LeafKeeps, LiftKeeps, LockKeeps, LowerKeeps, Opens, OwnKeeps, RaiseKeeps, ShrinkKeeps, SpliceKeeps, StoreKeeps, UnlinkKeeps};
 
 /// A table that was just opened meets the rule.
 pub fn opens()

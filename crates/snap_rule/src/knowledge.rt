@@ -1,4 +1,4 @@
-ghost use Rattle.snap_rule.specs.KnowledgeLaws.{AbsentBelow, AbsentHere, CutImage, ImageKept, LiveKnown};
+ghost use Rattle.snap_rule.specs.Laws.Knowledge.{AbsentBelow, AbsentHere, CutImage, ImageKept, LiveKnown};
 
 /// Birth and stamp, loaded in a write, make a row live.
 pub fn live_known()

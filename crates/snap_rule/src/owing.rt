@@ -1,4 +1,4 @@
-ghost use Rattle.snap_rule.specs.DebtKindLaws.{AimOwes, ClearOwes, CopyOwes, CutOwes, HeightOwes, LeafOwes, LeaveOwes, OpensOwes, OwnSilent, RaiseOwes, RaiseTurns, ShrinkOwes, ShrinkTurns, SilentKinds, SilentOwes, StoreOwes, TurnKept, UnlinkOwes, UpOwes};
+ghost use Rattle.snap_rule.specs.Laws.DebtKinds.{AimOwes, ClearOwes, CopyOwes, CutOwes, HeightOwes, LeafOwes, LeaveOwes, OpensOwes, OwnSilent, RaiseOwes, RaiseTurns, ShrinkOwes, ShrinkTurns, SilentKinds, SilentOwes, StoreOwes, TurnKept, UnlinkOwes, UpOwes};
 
 /// `store_value`.
 pub fn store_owes()

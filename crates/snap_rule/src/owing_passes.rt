@@ -1,4 +1,4 @@
-ghost use Rattle.snap_rule.specs.DebtStepLaws.{AimWhole, ClearWhole, CopyWhole, DebtStepHolds, HeightWhole, LeafWhole, LeaveWhole, RaiseWhole, ShrinkWhole, SilentWhole, StoreWhole, TurnsKnown, UnlinkWhole, UpWhole};
+ghost use Rattle.snap_rule.specs.Laws.DebtPasses.{AimWhole, ClearWhole, CopyWhole, DebtStepHolds, HeightWhole, LeafWhole, LeaveWhole, RaiseWhole, ShrinkWhole, SilentWhole, StoreWhole, TurnsKnown, UnlinkWhole, UpWhole};
 
 /// One law for the debts beside the views.
 pub fn debt_step_holds()

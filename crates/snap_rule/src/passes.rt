@@ -1,4 +1,4 @@
-ghost use Rattle.snap_rule.specs.StepLaws.{HeldLeave, StepHolds};
+ghost use Rattle.snap_rule.specs.Laws.Passes.{HeldLeave, StepHolds};
 
 /// A step whose pass holds what it changes leaves alone what others hold.
 pub fn held_leave()

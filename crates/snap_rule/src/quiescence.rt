@@ -1,4 +1,4 @@
-ghost use Rattle.snap_rule.specs.QuiescenceLaws.{CalmBegins, CalmGoesOn, CalmKept, QuietBegins, QuietKept, QuietLoads, TroubleTells};
+ghost use Rattle.snap_rule.specs.Laws.Quiescence.{CalmBegins, CalmGoesOn, CalmKept, QuietBegins, QuietKept, QuietLoads, TroubleTells};
 
 use snap_stamp::Field;
 use std::collections::LinkedList;

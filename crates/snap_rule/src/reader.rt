@@ -1,4 +1,4 @@
-ghost use Rattle.snap_rule.specs.ReaderLaws.{KeyDiffers, KeyMatches, LinkAgain, LinkFound, LinkNone, NoneAnswered, NoneConfirmed, PlaceKept, PositionKept, ReaderKept, RowConfirmed, StampLoaded, ValueLoaded, WayStarts};
+ghost use Rattle.snap_rule.specs.Laws.Readers.{KeyDiffers, KeyMatches, LinkAgain, LinkFound, LinkNone, NoneAnswered, NoneConfirmed, PlaceKept, PositionKept, ReaderKept, RowConfirmed, StampLoaded, ValueLoaded, WayStarts};
 
 use snap_stamp::Side;
 

@@ -1,4 +1,4 @@
-ghost use Rattle.snap_rule.specs.SettledLaws.{AllSettled, CutCause, QuietShallow, ReasonLasts, RoomBefore, SettledShallow, SharedSettled, StampFound};
+ghost use Rattle.snap_rule.specs.Laws.Settled.{AllSettled, CutCause, QuietShallow, ReasonLasts, RoomBefore, SettledShallow, SharedSettled, StampFound};
 
 /// Room after a step gives room before it.
 pub fn room_before()

@@ -1,4 +1,4 @@
-use Rattle.snap_rule.proofs.Carried.{clear_doing as the_clear_doing}
+use Rattle.snap_rule.proofs.InChange.{clear_doing as the_clear_doing}
 use Rattle.snap_rule.proofs.change.clear_doing.Goals as goal
 
 pub returns : goal.returns

@@ -1,4 +1,4 @@
-use Rattle.snap_rule.proofs.Carried.{doing_kept as the_doing_kept}
+use Rattle.snap_rule.proofs.InChange.{doing_kept as the_doing_kept}
 use Rattle.snap_rule.proofs.change.doing_kept.Goals as goal
 
 pub returns : goal.returns

@@ -1,4 +1,4 @@
-use Rattle.snap_rule.proofs.Carried.{lift_doing as the_lift_doing}
+use Rattle.snap_rule.proofs.InChange.{lift_doing as the_lift_doing}
 use Rattle.snap_rule.proofs.change.lift_doing.Goals as goal
 
 pub returns : goal.returns

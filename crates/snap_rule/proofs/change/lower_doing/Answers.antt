@@ -1,4 +1,4 @@
-use Rattle.snap_rule.proofs.Carried.{lower_doing as the_lower_doing}
+use Rattle.snap_rule.proofs.InChange.{lower_doing as the_lower_doing}
 use Rattle.snap_rule.proofs.change.lower_doing.Goals as goal
 
 pub returns : goal.returns

@@ -1,4 +1,4 @@
-use Rattle.snap_rule.proofs.Others.{own_apart as the_own_apart, lock_apart as the_lock_apart, header_apart as the_header_apart, leaf_apart as the_leaf_apart, store_apart as the_store_apart, copy_apart as the_copy_apart, unlink_apart as the_unlink_apart, splice_apart as the_splice_apart, shrink_apart as the_shrink_apart, lower_apart as the_lower_apart, lift_apart as the_lift_apart, raise_apart as the_raise_apart, clear_apart as the_clear_apart, height_apart as the_height_apart}
+use Rattle.snap_rule.proofs.LeftAlone.{own_apart as the_own_apart, lock_apart as the_lock_apart, header_apart as the_header_apart, leaf_apart as the_leaf_apart, store_apart as the_store_apart, copy_apart as the_copy_apart, unlink_apart as the_unlink_apart, splice_apart as the_splice_apart, shrink_apart as the_shrink_apart, lower_apart as the_lower_apart, lift_apart as the_lift_apart, raise_apart as the_raise_apart, clear_apart as the_clear_apart, height_apart as the_height_apart}
 use Rattle.snap_rule.proofs.change.others_leave.Goals as goal
 
 pub returns : goal.returns

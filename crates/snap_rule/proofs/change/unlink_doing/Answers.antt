@@ -1,4 +1,4 @@
-use Rattle.snap_rule.proofs.Carried.{unlink_doing as the_unlink_doing}
+use Rattle.snap_rule.proofs.InChange.{unlink_doing as the_unlink_doing}
 use Rattle.snap_rule.proofs.change.unlink_doing.Goals as goal
 
 pub returns : goal.returns

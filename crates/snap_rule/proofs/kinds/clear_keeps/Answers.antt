@@ -1,4 +1,4 @@
-use Rattle.snap_rule.proofs.Silent.{clear_evolves as the_clear_evolves}
+use Rattle.snap_rule.proofs.Evolving.Silent.{clear_evolves as the_clear_evolves}
 use Rattle.snap_rule.proofs.Table.{clear_keeps as the_clear_keeps}
 use Rattle.snap_rule.proofs.kinds.clear_keeps.Goals as goal
 

@@ -1,4 +1,4 @@
-use Rattle.snap_rule.proofs.Steps.{copy_evolves as the_copy_evolves}
+use Rattle.snap_rule.proofs.Evolving.Telling.{copy_evolves as the_copy_evolves}
 use Rattle.snap_rule.proofs.Table.{copy_keeps as the_copy_keeps}
 use Rattle.snap_rule.proofs.kinds.copy_keeps.Goals as goal
 

@@ -1,4 +1,4 @@
-use Rattle.snap_rule.proofs.Steps.{cut_evolves as the_cut_evolves}
+use Rattle.snap_rule.proofs.Evolving.Telling.{cut_evolves as the_cut_evolves}
 use Rattle.snap_rule.proofs.Table.{cut_keeps as the_cut_keeps}
 use Rattle.snap_rule.proofs.kinds.cut_keeps.Goals as goal
 

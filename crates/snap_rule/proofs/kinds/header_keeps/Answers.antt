@@ -1,4 +1,4 @@
-use Rattle.snap_rule.proofs.Silent.{header_evolves as the_header_evolves}
+use Rattle.snap_rule.proofs.Evolving.Silent.{header_evolves as the_header_evolves}
 use Rattle.snap_rule.proofs.Table.{header_keeps as the_header_keeps}
 use Rattle.snap_rule.proofs.kinds.header_keeps.Goals as goal
 

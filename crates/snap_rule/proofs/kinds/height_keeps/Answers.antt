@@ -1,4 +1,4 @@
-use Rattle.snap_rule.proofs.Silent.{height_evolves as the_height_evolves}
+use Rattle.snap_rule.proofs.Evolving.Silent.{height_evolves as the_height_evolves}
 use Rattle.snap_rule.proofs.Table.{height_keeps as the_height_keeps}
 use Rattle.snap_rule.proofs.kinds.height_keeps.Goals as goal
 

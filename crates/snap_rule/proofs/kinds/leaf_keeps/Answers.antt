@@ -1,4 +1,4 @@
-use Rattle.snap_rule.proofs.Silent.{leaf_evolves as the_leaf_evolves}
+use Rattle.snap_rule.proofs.Evolving.Silent.{leaf_evolves as the_leaf_evolves}
 use Rattle.snap_rule.proofs.Table.{leaf_keeps as the_leaf_keeps}
 use Rattle.snap_rule.proofs.kinds.leaf_keeps.Goals as goal
 

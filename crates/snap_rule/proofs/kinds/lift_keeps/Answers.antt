@@ -1,4 +1,4 @@
-use Rattle.snap_rule.proofs.Silent.{lift_evolves as the_lift_evolves}
+use Rattle.snap_rule.proofs.Evolving.Silent.{lift_evolves as the_lift_evolves}
 use Rattle.snap_rule.proofs.Table.{lift_keeps as the_lift_keeps}
 use Rattle.snap_rule.proofs.kinds.lift_keeps.Goals as goal
 

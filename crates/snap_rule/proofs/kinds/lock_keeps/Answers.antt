@@ -1,4 +1,4 @@
-use Rattle.snap_rule.proofs.Silent.{lock_evolves as the_lock_evolves}
+use Rattle.snap_rule.proofs.Evolving.Silent.{lock_evolves as the_lock_evolves}
 use Rattle.snap_rule.proofs.Table.{lock_keeps as the_lock_keeps}
 use Rattle.snap_rule.proofs.kinds.lock_keeps.Goals as goal
 

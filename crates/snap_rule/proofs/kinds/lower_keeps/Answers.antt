@@ -1,4 +1,4 @@
-use Rattle.snap_rule.proofs.Silent.{lower_evolves as the_lower_evolves}
+use Rattle.snap_rule.proofs.Evolving.Silent.{lower_evolves as the_lower_evolves}
 use Rattle.snap_rule.proofs.Table.{lower_keeps as the_lower_keeps}
 use Rattle.snap_rule.proofs.kinds.lower_keeps.Goals as goal
 

@@ -1,4 +1,4 @@
-use Rattle.snap_rule.proofs.Silent.{own_evolves as the_own_evolves}
+use Rattle.snap_rule.proofs.Evolving.Silent.{own_evolves as the_own_evolves}
 use Rattle.snap_rule.proofs.Table.{own_keeps as the_own_keeps}
 use Rattle.snap_rule.proofs.kinds.own_keeps.Goals as goal
 

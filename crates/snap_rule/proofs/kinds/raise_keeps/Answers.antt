@@ -1,4 +1,4 @@
-use Rattle.snap_rule.proofs.Steps.{raise_evolves as the_raise_evolves}
+use Rattle.snap_rule.proofs.Evolving.Telling.{raise_evolves as the_raise_evolves}
 use Rattle.snap_rule.proofs.Table.{raise_keeps as the_raise_keeps}
 use Rattle.snap_rule.proofs.kinds.raise_keeps.Goals as goal
 

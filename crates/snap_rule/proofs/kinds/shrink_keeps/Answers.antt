@@ -1,4 +1,4 @@
-use Rattle.snap_rule.proofs.Steps.{shrink_evolves as the_shrink_evolves}
+use Rattle.snap_rule.proofs.Evolving.Telling.{shrink_evolves as the_shrink_evolves}
 use Rattle.snap_rule.proofs.Table.{shrink_keeps as the_shrink_keeps}
 use Rattle.snap_rule.proofs.kinds.shrink_keeps.Goals as goal
 

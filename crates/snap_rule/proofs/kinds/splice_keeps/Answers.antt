@@ -1,4 +1,4 @@
-use Rattle.snap_rule.proofs.Silent.{splice_evolves as the_splice_evolves}
+use Rattle.snap_rule.proofs.Evolving.Silent.{splice_evolves as the_splice_evolves}
 use Rattle.snap_rule.proofs.Table.{splice_keeps as the_splice_keeps}
 use Rattle.snap_rule.proofs.kinds.splice_keeps.Goals as goal
 

@@ -1,4 +1,4 @@
-use Rattle.snap_rule.proofs.Steps.{store_evolves as the_store_evolves}
+use Rattle.snap_rule.proofs.Evolving.Telling.{store_evolves as the_store_evolves}
 use Rattle.snap_rule.proofs.Table.{store_keeps as the_store_keeps}
 use Rattle.snap_rule.proofs.kinds.store_keeps.Goals as goal
 

@@ -1,4 +1,4 @@
-use Rattle.snap_rule.proofs.Steps.{unlink_evolves as the_unlink_evolves}
+use Rattle.snap_rule.proofs.Evolving.Telling.{unlink_evolves as the_unlink_evolves}
 use Rattle.snap_rule.proofs.Table.{unlink_keeps as the_unlink_keeps}
 use Rattle.snap_rule.proofs.kinds.unlink_keeps.Goals as goal
 

@@ -1,4 +1,4 @@
-use Rattle.snap_rule.proofs.Steps.{cut_image as the_cut_image}
+use Rattle.snap_rule.proofs.Evolving.Telling.{cut_image as the_cut_image}
 use Rattle.snap_rule.proofs.knowledge.cut_image.Goals as goal
 
 pub returns : goal.returns

@@ -1,4 +1,4 @@
-use Rattle.snap_rule.proofs.Kept.{image_kept as the_image_kept}
+use Rattle.snap_rule.proofs.Readers.Kept.{image_kept as the_image_kept}
 use Rattle.snap_rule.proofs.knowledge.image_kept.Goals as goal
 
 pub returns : goal.returns

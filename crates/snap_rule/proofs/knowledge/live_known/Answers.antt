@@ -1,4 +1,4 @@
-use Rattle.snap_rule.proofs.Present.{live_known as the_live_known}
+use Rattle.snap_rule.proofs.Parts.Present.{live_known as the_live_known}
 use Rattle.snap_rule.proofs.knowledge.live_known.Goals as goal
 
 pub returns : goal.returns

@@ -1,4 +1,4 @@
-use Rattle.snap_rule.proofs.DebtKinds.{aim_owes as the_aim_owes}
+use Rattle.snap_rule.proofs.Debts.Kinds.{aim_owes as the_aim_owes}
 use Rattle.snap_rule.proofs.owing.aim_owes.Goals as goal
 
 pub returns : goal.returns

@@ -1,4 +1,4 @@
-use Rattle.snap_rule.proofs.DebtTurns.{clear_owes as the_clear_owes}
+use Rattle.snap_rule.proofs.Debts.Turns.{clear_owes as the_clear_owes}
 use Rattle.snap_rule.proofs.owing.clear_owes.Goals as goal
 
 pub returns : goal.returns

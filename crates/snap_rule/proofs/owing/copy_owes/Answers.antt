@@ -1,4 +1,4 @@
-use Rattle.snap_rule.proofs.DebtTrees.{copy_owes as the_copy_owes}
+use Rattle.snap_rule.proofs.Debts.Trees.{copy_owes as the_copy_owes}
 use Rattle.snap_rule.proofs.owing.copy_owes.Goals as goal
 
 pub returns : goal.returns

@@ -1,4 +1,4 @@
-use Rattle.snap_rule.proofs.DebtKinds.{cut_owes as the_cut_owes}
+use Rattle.snap_rule.proofs.Debts.Kinds.{cut_owes as the_cut_owes}
 use Rattle.snap_rule.proofs.owing.cut_owes.Goals as goal
 
 pub returns : goal.returns

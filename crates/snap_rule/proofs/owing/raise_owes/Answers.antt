@@ -1,4 +1,4 @@
-use Rattle.snap_rule.proofs.DebtTrees.{raise_owes as the_raise_owes}
+use Rattle.snap_rule.proofs.Debts.Trees.{raise_owes as the_raise_owes}
 use Rattle.snap_rule.proofs.owing.raise_owes.Goals as goal
 
 pub returns : goal.returns

@@ -1,4 +1,4 @@
-use Rattle.snap_rule.proofs.DebtTurns.{shrink_owes as the_shrink_owes}
+use Rattle.snap_rule.proofs.Debts.Turns.{shrink_owes as the_shrink_owes}
 use Rattle.snap_rule.proofs.owing.shrink_owes.Goals as goal
 
 pub returns : goal.returns

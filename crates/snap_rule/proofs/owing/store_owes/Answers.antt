@@ -1,4 +1,4 @@
-use Rattle.snap_rule.proofs.DebtKinds.{store_owes as the_store_owes}
+use Rattle.snap_rule.proofs.Debts.Kinds.{store_owes as the_store_owes}
 use Rattle.snap_rule.proofs.owing.store_owes.Goals as goal
 
 pub returns : goal.returns

@@ -1,4 +1,4 @@
-use Rattle.snap_rule.proofs.DebtTrees.{unlink_owes as the_unlink_owes}
+use Rattle.snap_rule.proofs.Debts.Trees.{unlink_owes as the_unlink_owes}
 use Rattle.snap_rule.proofs.owing.unlink_owes.Goals as goal
 
 pub returns : goal.returns

@@ -1,4 +1,4 @@
-use Rattle.snap_rule.proofs.DebtKinds.{up_owes as the_up_owes}
+use Rattle.snap_rule.proofs.Debts.Kinds.{up_owes as the_up_owes}
 use Rattle.snap_rule.proofs.owing.up_owes.Goals as goal
 
 pub returns : goal.returns

@@ -1,4 +1,4 @@
-use Rattle.snap_rule.proofs.DebtSteps.{aim_whole as the_aim_whole}
+use Rattle.snap_rule.proofs.Debts.Steps.{aim_whole as the_aim_whole}
 use Rattle.snap_rule.proofs.owing_passes.aim_whole.Goals as goal
 
 pub returns : goal.returns

@@ -1,4 +1,4 @@
-use Rattle.snap_rule.proofs.DebtSteps.{clear_whole as the_clear_whole}
+use Rattle.snap_rule.proofs.Debts.Steps.{clear_whole as the_clear_whole}
 use Rattle.snap_rule.proofs.owing_passes.clear_whole.Goals as goal
 
 pub returns : goal.returns

@@ -1,4 +1,4 @@
-use Rattle.snap_rule.proofs.DebtSteps.{copy_whole as the_copy_whole}
+use Rattle.snap_rule.proofs.Debts.Steps.{copy_whole as the_copy_whole}
 use Rattle.snap_rule.proofs.owing_passes.copy_whole.Goals as goal
 
 pub returns : goal.returns

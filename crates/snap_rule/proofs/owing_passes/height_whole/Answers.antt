@@ -1,4 +1,4 @@
-use Rattle.snap_rule.proofs.DebtSteps.{height_whole as the_height_whole}
+use Rattle.snap_rule.proofs.Debts.Steps.{height_whole as the_height_whole}
 use Rattle.snap_rule.proofs.owing_passes.height_whole.Goals as goal
 
 pub returns : goal.returns

@@ -1,4 +1,4 @@
-use Rattle.snap_rule.proofs.DebtSteps.{leaf_whole as the_leaf_whole}
+use Rattle.snap_rule.proofs.Debts.Steps.{leaf_whole as the_leaf_whole}
 use Rattle.snap_rule.proofs.owing_passes.leaf_whole.Goals as goal
 
 pub returns : goal.returns

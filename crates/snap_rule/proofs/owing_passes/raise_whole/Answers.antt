@@ -1,4 +1,4 @@
-use Rattle.snap_rule.proofs.DebtSteps.{raise_whole as the_raise_whole}
+use Rattle.snap_rule.proofs.Debts.Steps.{raise_whole as the_raise_whole}
 use Rattle.snap_rule.proofs.owing_passes.raise_whole.Goals as goal
 
 pub returns : goal.returns

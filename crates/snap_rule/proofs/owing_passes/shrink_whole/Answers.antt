@@ -1,4 +1,4 @@
-use Rattle.snap_rule.proofs.DebtSteps.{shrink_whole as the_shrink_whole}
+use Rattle.snap_rule.proofs.Debts.Steps.{shrink_whole as the_shrink_whole}
 use Rattle.snap_rule.proofs.owing_passes.shrink_whole.Goals as goal
 
 pub returns : goal.returns

@@ -1,4 +1,4 @@
-use Rattle.snap_rule.proofs.DebtSteps.{silent_whole as the_silent_whole}
+use Rattle.snap_rule.proofs.Debts.Steps.{silent_whole as the_silent_whole}
 use Rattle.snap_rule.proofs.owing_passes.silent_whole.Goals as goal
 
 pub returns : goal.returns

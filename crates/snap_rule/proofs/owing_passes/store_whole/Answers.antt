@@ -1,4 +1,4 @@
-use Rattle.snap_rule.proofs.DebtSteps.{store_whole as the_store_whole}
+use Rattle.snap_rule.proofs.Debts.Steps.{store_whole as the_store_whole}
 use Rattle.snap_rule.proofs.owing_passes.store_whole.Goals as goal
 
 pub returns : goal.returns

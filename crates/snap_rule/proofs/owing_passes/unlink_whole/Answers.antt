@@ -1,4 +1,4 @@
-use Rattle.snap_rule.proofs.DebtSteps.{unlink_whole as the_unlink_whole}
+use Rattle.snap_rule.proofs.Debts.Steps.{unlink_whole as the_unlink_whole}
 use Rattle.snap_rule.proofs.owing_passes.unlink_whole.Goals as goal
 
 pub returns : goal.returns

@@ -1,4 +1,4 @@
-use Rattle.snap_rule.proofs.DebtSteps.{up_whole as the_up_whole}
+use Rattle.snap_rule.proofs.Debts.Steps.{up_whole as the_up_whole}
 use Rattle.snap_rule.proofs.owing_passes.up_whole.Goals as goal
 
 pub returns : goal.returns

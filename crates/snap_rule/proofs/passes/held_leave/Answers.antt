@@ -1,4 +1,4 @@
-use Rattle.snap_rule.proofs.Others.{own_leaves, take_leaves, free_leaves, header_leaves, leaf_leaves, store_leaves, copy_leaves, unlink_leaves, splice_leaves, shrink_leaves, lower_leaves, lift_leaves, raise_leaves, clear_leaves, height_leaves, absent_leaves}
+use Rattle.snap_rule.proofs.LeftAlone.{own_leaves, take_leaves, free_leaves, header_leaves, leaf_leaves, store_leaves, copy_leaves, unlink_leaves, splice_leaves, shrink_leaves, lower_leaves, lift_leaves, raise_leaves, clear_leaves, height_leaves, absent_leaves}
 use Rattle.snap_rule.proofs.passes.held_leave.Goals as goal
 
 pub returns : goal.returns

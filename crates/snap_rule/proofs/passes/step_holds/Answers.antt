@@ -1,4 +1,4 @@
-use Rattle.snap_rule.proofs.Step.{step_holds as the_step_holds}
+use Rattle.snap_rule.proofs.WholeSteps.{step_holds as the_step_holds}
 use Rattle.snap_rule.proofs.passes.step_holds.Goals as goal
 
 pub returns : goal.returns

@@ -1,4 +1,4 @@
-use Rattle.snap_rule.proofs.Ends.{key_differs as proved}
+use Rattle.snap_rule.proofs.Readers.Ends.{key_differs as proved}
 use Rattle.snap_rule.proofs.reader.key_differs.Goals as goal
 
 pub returns : goal.returns

@@ -1,4 +1,4 @@
-use Rattle.snap_rule.proofs.Second.{link_again as proved}
+use Rattle.snap_rule.proofs.Readers.Second.{link_again as proved}
 use Rattle.snap_rule.proofs.reader.link_again.Goals as goal
 
 pub returns : goal.returns

@@ -1,4 +1,4 @@
-use Rattle.snap_rule.proofs.Loads.{link_found as proved}
+use Rattle.snap_rule.proofs.Readers.Loads.{link_found as proved}
 use Rattle.snap_rule.proofs.reader.link_found.Goals as goal
 
 pub returns : goal.returns

@@ -1,4 +1,4 @@
-use Rattle.snap_rule.proofs.Ends.{none_answered as proved}
+use Rattle.snap_rule.proofs.Readers.Ends.{none_answered as proved}
 use Rattle.snap_rule.proofs.reader.none_answered.Goals as goal
 
 pub returns : goal.returns

@@ -1,4 +1,4 @@
-use Rattle.snap_rule.proofs.Kept.{position_kept as proved}
+use Rattle.snap_rule.proofs.Readers.Kept.{position_kept as proved}
 use Rattle.snap_rule.proofs.reader.position_kept.Goals as goal
 
 pub returns : goal.returns

@@ -1,4 +1,4 @@
-use Rattle.snap_rule.proofs.Kept.{reader_kept as proved}
+use Rattle.snap_rule.proofs.Readers.Kept.{reader_kept as proved}
 use Rattle.snap_rule.proofs.reader.reader_kept.Goals as goal
 
 pub returns : goal.returns

@@ -1,4 +1,4 @@
-use Rattle.snap_rule.proofs.Loads.{way_starts as proved}
+use Rattle.snap_rule.proofs.Readers.Loads.{way_starts as proved}
 use Rattle.snap_rule.proofs.reader.way_starts.Goals as goal
 
 pub returns : goal.returns

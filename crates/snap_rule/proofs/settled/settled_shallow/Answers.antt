@@ -1,4 +1,4 @@
-use Rattle.snap_rule.proofs.Shallow.{settled_shallow as the_settled_shallow}
+use Rattle.snap_rule.proofs.Trees.Shallow.{settled_shallow as the_settled_shallow}
 use Rattle.snap_rule.proofs.settled.settled_shallow.Goals as goal
 
 pub returns : goal.returns

@@ -1,0 +1,25 @@
+-- The child check: what is known of the child that a reader has loaded from a link, before and after it has loaded
+-- the link and the stamps once more.
+use Rattle.std.specs.Prelude.{List, None, ℕ, ◌≡◌}
+use Rattle.snap_model.specs.History.{told}
+use Rattle.snap_model.specs.declared.call.Entry.{Entry}
+use Rattle.snap_rule.specs.Moments.{AtSome}
+use Rattle.snap_rule.specs.Position.{IsPlaced}
+use Rattle.snap_rule.specs.State.{State}
+use Rattle.snap_rule.specs.Tree.{value_word}
+
+-- k was absent, at some moment
+abbrev pub WasAbsent : State → List Entry → ℕ → Type 0
+WasAbsent s seen k = AtSome seen s.history (λ p. told p k ≡ None)
+
+-- c's value is that of k, at some moment
+abbrev pub HasTold : State → List Entry → ℕ → ℕ → Type 0
+HasTold s seen c k = AtSome seen s.history (λ p. s.value c ≡ value_word (told p k))
+
+pub record IsGone (s : State) (seen : List Entry) (c : ℕ) : Type 0 where
+  pub no_value : s.value c ≡ 0
+  pub absent : WasAbsent s seen (s.key c)
+
+pub record IsCandidate (s : State) (seen : List Entry) (k c w : ℕ) : Type 0 where
+  pub placed : s.stamp c ≡ w → IsPlaced s seen c k
+  pub tells : s.key c ≡ k → HasTold s seen c k

@@ -1,0 +1,97 @@
+-- What each kind of step makes of its pass's debt, and what it needs of that debt.
+use Rattle.std.specs.Prelude.{None, Option, Some, [], max, ℕ, ◌≡◌, ◌≢◌, ◌⊎◌}
+use Rattle.snap_stamp.specs.declared.side.Side.{Side}
+use Rattle.snap_stamp.specs.declared.side.Side.TheVariants.{Left, Right}
+use Rattle.snap_rule.specs.Debt.{Owes, OwesNone}
+use Rattle.snap_rule.specs.Debt.Lists.{Aims, noted, or_else}
+use Rattle.snap_rule.specs.Debt.Step.{IsFree}
+use Rattle.snap_rule.specs.Position.{Faces}
+use Rattle.snap_rule.specs.Rule.{IsLive, IsParent}
+use Rattle.snap_rule.specs.Settled.{IsSettled, child_height, one_more}
+use Rattle.snap_rule.specs.State.{IsShared, State}
+use Rattle.snap_rule.specs.Tree.{OnWay}
+use Rattle.snap_rule.specs.declared.debt.Debt.{Debt}
+
+-- K8
+abbrev pub stored_debt : State → ℕ → ℕ → Option ℕ → Debt → Debt
+stored_debt s row k None v = record { to_do = Some k; list = noted s row []; turning = None }
+stored_debt s row k (Some x) v = v
+
+-- K7
+abbrev pub leaf_debt : State → ℕ → ℕ → Debt
+leaf_debt s parent k = record { to_do = Some k; list = noted s parent []; turning = None }
+
+-- K24: the height is one more than the larger height of the row's children
+pub record MayOweHeight (s : State) (debts : ℕ → Debt) (id parent : ℕ) (d : Side) (row h : ℕ) : Type 0 where
+  pub parent_live : IsParent s parent d
+  pub live : IsLive s row
+  pub child : s.links parent d ≡ row
+  pub apart : parent ≢ row
+  pub is_height : h ≡ one_more (max (child_height s row Left) (child_height s row Right))
+  pub path : ((debts id).to_do ≡ None) ⊎ Aims s (debts id) row ⊎ Aims s (debts id) parent ⊎ Owes s (debts id) parent ⊎ (parent ≡ 0)
+  pub free : IsFree debts id parent
+
+abbrev pub height_debt : State → ℕ → ℕ → Debt → Debt
+height_debt s parent row v = record { to_do = or_else v.to_do (s.key row); list = noted s parent v.list; turning = v.turning }
+
+-- pass_up
+pub record MayPassUp (s : State) (v : Debt) (parent : ℕ) (d : Side) (row : ℕ) : Type 0 where
+  pub parent_live : IsParent s parent d
+  pub child : s.links parent d ≡ row
+  pub is_row : row ≢ 0
+  pub to_do : v.to_do ≡ Some (s.key row)
+  pub settled : IsSettled s row
+
+-- aim
+pub record AimsBeyond (s : State) (v : Debt) (row : ℕ) : Type 0 where
+  pub key : ℕ
+  pub side : Side
+  pub to_do : v.to_do ≡ Some key
+  pub place : (row ≡ 0) ⊎ OnWay s.tree key row
+  pub faces : Faces s row key side
+  pub ends : (s.links row side ≡ 0) ⊎ IsShared s (s.links row side)
+
+pub record AimsAbove (s : State) (v : Debt) (row : ℕ) : Type 0 where
+  pub parent : ℕ
+  pub side : Side
+  pub live : IsLive s parent
+  pub child : s.links parent side ≡ row
+  pub is_row : row ≢ 0
+  pub to_do : v.to_do ≡ Some (s.key parent)
+
+abbrev pub MayAim : State → Debt → ℕ → Type 0
+MayAim s v row = Aims s v row ⊎ AimsBeyond s v row ⊎ AimsAbove s v row
+
+-- K19: the to-do key comes to be the row's, or stays that of the row's child on the side
+pub record MayOweTurn (s : State) (debts : ℕ → Debt) (id parent : ℕ) (p : Side) (row : ℕ) (d : Side) (raised key : ℕ) : Type 0 where
+  pub parent_live : IsParent s parent p
+  pub live : IsLive s row
+  pub child : s.links parent p ≡ row
+  pub raised_child : s.links row d ≡ raised
+  pub is_raised : raised ≢ 0
+  pub to_do : (key ≡ s.key row) × (OwesNone s (debts id) ⊎ Aims s (debts id) row ⊎ Aims s (debts id) parent) ⊎ (key ≡ s.key raised) × ((debts id).to_do ≡ Some key)
+  pub free : IsFree debts id row
+
+abbrev pub shrink_debt : State → ℕ → ℕ → Debt → Debt
+shrink_debt s' row key v = record { to_do = Some key; list = noted s' row v.list; turning = Some row }
+
+-- K22
+pub record MayOweRaise (s : State) (debts : ℕ → Debt) (id parent row raised : ℕ) : Type 0 where
+  pub turning : (debts id).turning ≡ Some row
+  pub to_do : ((debts id).to_do ≡ Some (s.key row)) ⊎ ((debts id).to_do ≡ Some (s.key raised))
+  pub free : IsFree debts id row × IsFree debts id raised × IsFree debts id parent
+
+abbrev pub raise_debt : State → ℕ → ℕ → ℕ → Debt → Debt
+raise_debt s parent row raised v = record { to_do = Some (s.key row); list = noted s row (noted s raised (noted s parent v.list)); turning = Some row }
+
+-- K23
+abbrev pub clear_debt : State → ℕ → Debt → Debt
+clear_debt s' row v = record { to_do = v.to_do; list = noted s' row v.list; turning = None }
+
+-- what a pass that has marked a row knows of its debt, from K19 to K22 and then to K23
+pub record Turning (s : State) (v : Debt) (row : ℕ) : Type 0 where
+  pub turning : v.turning ≡ Some row
+  pub owes : Owes s v row
+
+abbrev pub AimsAtTurn : State → Debt → (row raised : ℕ) → Type 0
+AimsAtTurn s v row raised = (v.to_do ≡ Some (s.key row)) ⊎ (v.to_do ≡ Some (s.key raised))

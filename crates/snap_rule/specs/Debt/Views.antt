@@ -1,0 +1,43 @@
+-- The debts beside the views of the passes.
+use Rattle.std.specs.Prelude.{List, None, Some, ℕ, ◌≡◌, ◌≢◌, ◌⊎◌}
+use Rattle.snap_stamp.specs.declared.side.Side.{Side}
+use Rattle.snap_rule.specs.Debt.{DebtOk, OwesNone, no_debt}
+use Rattle.snap_rule.specs.Debt.Kinds.{AimsAtTurn, Turning}
+use Rattle.snap_rule.specs.Debt.Lists.{Aims}
+use Rattle.snap_rule.specs.Room.{HasRoom}
+use Rattle.snap_rule.specs.Rule.{IsParent}
+use Rattle.snap_rule.specs.State.{State}
+use Rattle.snap_rule.specs.Views.{Holds, View, at_seat}
+use Rattle.snap_rule.specs.declared.change.Doing.{Doing}
+use Rattle.snap_rule.specs.declared.change.Doing.TheVariants.{Lifted, Lowered, Nothing, Shrunk, Turned, Unlinked}
+use Rattle.snap_rule.specs.declared.debt.Debt.{Debt}
+
+-- what a pass in a change knows of its debt
+abbrev pub DebtDoing : State → Doing → Debt → Type 0
+DebtDoing s Nothing v = v.turning ≡ None
+DebtDoing s (Unlinked parent d row only) v = v.turning ≡ None
+DebtDoing s (Shrunk parent p row d raised) v = Turning s v row × AimsAtTurn s v row raised
+DebtDoing s (Lowered parent p row d raised) v = Turning s v row × AimsAtTurn s v row raised
+DebtDoing s (Lifted parent p row d raised) v = Turning s v row × AimsAtTurn s v row raised
+DebtDoing s (Turned row) v = Turning s v row
+
+pub record DebtHolds (s : State) (views : List View) (debts : ℕ → Debt) (next rows : ℕ) : Type 0 where
+  pub owing : HasRoom s next rows → DebtOk s debts
+  pub doing : (j : ℕ) (u : View) → at_seat views j ≡ Some u → DebtDoing s u.doing (debts u.who)
+  pub absent : (k : ℕ) → ((j : ℕ) (u : View) → at_seat views j ≡ Some u → u.who ≢ k) → debts k ≡ no_debt
+
+-- a step of the pass at a seat
+pub record Stepping (s : State) (views : List View) (id : ℕ) (v w : View) (debts : ℕ → Debt) (next rows : ℕ) : Type 0 where
+  pub holds : Holds s views
+  pub debt : DebtHolds s views debts next rows
+  pub at : at_seat views id ≡ Some v
+  pub who : w.who ≡ v.who
+
+-- K19, K22 and K23 as whole steps: what K22 and K23 need of the debt is in the view
+pub record ShrinkAims (s : State) (v : Debt) (parent : ℕ) (p : Side) (row : ℕ) (d : Side) (raised key next rows : ℕ) : Type 0 where
+  pub parent_live : IsParent s parent p
+  pub child : s.links parent p ≡ row
+  pub raised_child : s.links row d ≡ raised
+  pub is_raised : raised ≢ 0
+  pub key_is : (key ≡ s.key row) ⊎ (key ≡ s.key raised)
+  pub to_do : HasRoom s next rows → (key ≡ s.key row) × (OwesNone s v ⊎ Aims s v row ⊎ Aims s v parent) ⊎ (key ≡ s.key raised) × (v.to_do ≡ Some key)

@@ -1,0 +1,58 @@
+-- Debts in general: one law for a step, and what follows from the debts of all passes.
+use Rattle.std.specs.Prelude.{List, None, Some, [], if◌then◌else◌, ℕ, ◌+◌, ◌==◌, ◌∷◌, ◌≡◌, ◌≢◌, ◌≤◌, ◌⊎◌}
+use Rattle.snap_stamp.specs.Stamps.{IsUnmarked}
+use Rattle.snap_rule.specs.Debt.{DebtFits, DebtOk, Owes, OwesNone, Turns, no_debt}
+use Rattle.snap_rule.specs.Debt.Step.{DebtEvolves, DebtStep, IsFree}
+use Rattle.snap_rule.specs.Evolves.{Evolves}
+use Rattle.snap_rule.specs.Room.{HasRoom}
+use Rattle.snap_rule.specs.Rule.{IsLive, TableOk}
+use Rattle.snap_rule.specs.State.{In, State}
+use Rattle.snap_rule.specs.Tree.{OnWay}
+use Rattle.snap_rule.specs.declared.debt.Debt.{Debt}
+
+-- one law for the debts at a step
+abbrev pub DebtSteps : Type 0
+DebtSteps = (s s' : State) (debts debts' : ℕ → Debt) (id : ℕ) → ((j : ℕ) → j ≢ id → debts' j ≡ debts j) → DebtOk s debts → DebtStep s s' debts id (debts' id) → DebtOk s' debts'
+
+abbrev pub FreeKnown : Type 0
+FreeKnown = (s : State) (debts : ℕ → Debt) (id n : ℕ) → Turns s debts → s.lock n ≡ id + 1 → IsFree debts id n
+
+-- unmarked live rows stay on their paths at every step that evolves the table and is no cut
+abbrev pub UnmarkedStays : Type 0
+UnmarkedStays = (s s' : State) (n : ℕ) → TableOk s → Evolves s s' → s'.epoch ≡ s.epoch → IsLive s n → IsUnmarked (s.stamp n) → s'.stamp n ≡ s.stamp n → IsLive s' n × ((k : ℕ) → OnWay s.tree k n → OnWay s'.tree k n)
+
+-- K19 to K23 keep that the row that a pass turns is locked by it; the other kinds leave `turning` as it is or set none
+abbrev pub TurnsKept : Type 0
+TurnsKept = (s s' : State) (debts debts' : ℕ → Debt) (id : ℕ) → ((j : ℕ) → j ≢ id → debts' j ≡ debts j) → ((j n : ℕ) → j ≢ id → (debts j).turning ≡ Some n → s'.lock n ≡ s.lock n) → ((n : ℕ) → (debts' id).turning ≡ Some n → s'.lock n ≡ id + 1) → Turns s debts → Turns s' debts'
+
+-- the debts are spoken of only while there is room, so a law under room before the step is enough
+abbrev pub UnderRoom : Type 0
+UnderRoom = (s s' : State) (next next' rows : ℕ) (debts debts' : ℕ → Debt) → Evolves s s' → next ≤ next' → (HasRoom s next rows → DebtOk s debts → DebtOk s' debts') → (HasRoom s next rows → DebtOk s debts) → HasRoom s' next' rows → DebtOk s' debts'
+
+-- a pass without a to-do key owes nothing
+abbrev pub KeylessOwes : Type 0
+KeylessOwes = (s : State) (debts : ℕ → Debt) (j : ℕ) → DebtOk s debts → (debts j).to_do ≡ None → OwesNone s (debts j)
+
+-- the passes in a list, each with its number and its debt
+pub record PassDebt : Type 0 where
+  pub who : ℕ
+  pub debt : Debt
+
+abbrev pub debts_of : List PassDebt → ℕ → Debt
+debts_of [] j = no_debt
+debts_of (v ∷ vs) j = if v.who == j then v.debt else debts_of vs j
+
+abbrev pub with_debt : List PassDebt → ℕ → Debt → List PassDebt
+with_debt [] i w = []
+with_debt (v ∷ vs) i w = if v.who == i then record { who = v.who; debt = w } ∷ vs else v ∷ with_debt vs i w
+
+abbrev pub HasPass : ℕ → List PassDebt → Type 0
+HasPass i [] = ⊥
+HasPass i (v ∷ vs) = (v.who ≡ i) ⊎ HasPass i vs
+
+abbrev pub DebtSet : Type 0
+DebtSet = (l : List PassDebt) (i : ℕ) (w : Debt) → HasPass i l → (debts_of (with_debt l i w) i ≡ w) × ((j : ℕ) → j ≢ i → debts_of (with_debt l i w) j ≡ debts_of l j)
+
+-- what a step leaves to another pass keeps that pass's debt: its owed rows stay live and on its path
+abbrev pub FitsKept : Type 0
+FitsKept = (s s' : State) (v u : Debt) → ((m : ℕ) → In m s.linked → In m s'.linked × (s.stamp m ≤ s'.stamp m)) → DebtEvolves s s' v → ((n : ℕ) → v.turning ≡ Some n → ¬ Owes s u n) → DebtFits s u → DebtFits s' u

@@ -1,0 +1,31 @@
+-- What loaded words tell: which rows are live, which keys are absent, and what a clone reads.
+use Rattle.std.specs.Prelude.{None, ℕ, ◌^◌, ◌≡◌, ◌⊎◌}
+use Rattle.snap_model.specs.History.{told}
+use Rattle.snap_stamp.specs.Stamps.{IsUnlinked}
+use Rattle.snap_stamp.specs.declared.side.Side.{Side}
+use Rattle.snap_stamp.specs.declared.side.Side.TheVariants.{Right}
+use Rattle.snap_rule.specs.Evolves.{Evolves}
+use Rattle.snap_rule.specs.Kinds.Clones.{MayCut, cut}
+use Rattle.snap_rule.specs.Position.{Faces}
+use Rattle.snap_rule.specs.Rule.{IsLive, TableOk}
+use Rattle.snap_rule.specs.State.{In, IsImage, State}
+use Rattle.snap_rule.specs.State.Change.{plain}
+use Rattle.snap_rule.specs.Tree.{Between, OnWay, Tree, find}
+
+-- what makes a row live, as a write knows it
+abbrev pub LiveKnown : Type 0
+LiveKnown = (s : State) (n : ℕ) → TableOk s → In n s.linked → s.birth n ≡ s.epoch → ¬ IsUnlinked (s.stamp n) → IsLive s n
+
+-- clones: the tree at the cut is read from its root, and the image of a shared row stays as it is
+abbrev pub CutImage : Type 0
+CutImage = (s : State) → TableOk s → MayCut s → IsImage (cut s) (s.link 0 Right) s.tree × Between 0 (2 ^ 64) s.tree × ((k : ℕ) → find s.tree k ≡ told s.history k)
+
+abbrev pub ImageKept : Type 0
+ImageKept = (s s' : State) (n : ℕ) (t : Tree) → Evolves s s' → IsImage s n t → IsImage s' n t
+
+-- what a removal loads under a lock to know that its key is absent
+abbrev pub AbsentHere : Type 0
+AbsentHere = (s : State) (row : ℕ) → TableOk s → IsLive s row → s.value row ≡ 0 → find s.tree (s.key row) ≡ None
+
+abbrev pub AbsentBelow : Type 0
+AbsentBelow = (s : State) (k n : ℕ) (d : Side) → TableOk s → Faces s n k d → (n ≡ 0) ⊎ OnWay s.tree k n → s.pending n d ≡ plain → s.link n d ≡ 0 → find s.tree k ≡ None
