@@ -11,7 +11,7 @@ use Rattle.snap_rule.specs.State.{State, In, WasLinked, IsShared, Reads}
 use Rattle.snap_stamp.specs.Stamps.{IsUnmarked}
 use Rattle.snap_rule.specs.Evolves.{Evolves, SameRow}
 use Rattle.snap_rule.specs.Position.{IsPlaced, PlaceOk}
-use Rattle.snap_rule.specs.Quiescence.{QuietOk, IsCalm, CalmOk, HasLoad, word, IsSo}
+use Rattle.snap_rule.specs.Quiescence.{QuietOk, IsCalm, CalmOk, word, IsSo}
 use Rattle.snap_rule.specs.declared.quiescence.Load.{Load}
 use Rattle.snap_rule.specs.Rule.{TreeOk, ChangesOk, NoneWrites, Fits}
 use Rattle.snap_rule.proofs.Trees.{reads_same, each_at, each_stands}
@@ -91,7 +91,7 @@ place_kept s s' k n v ev same h =
     go m e (inr i) (inr w) = still w.0 i (ev.place n k w.1 w.0 m e)
 
 -- trouble tells that a write was entered
-load_so : (s : State) (x : Load) (l : List Load) → HasLoad x l → Every (IsSo s) l → word s x.row x.field ≡ x.found
+load_so : (s : State) (x : Load) (l : List Load) → In x l → Every (IsSo s) l → word s x.row x.field ≡ x.found
 load_so s x [] h e = absurd h
 load_so s x (y ∷ l) (inl q) e = subst (λ (z : Load). word s z.row z.field ≡ z.found) (sym q) e.0.1
 load_so s x (y ∷ l) (inr h) e = load_so s x l h e.1
@@ -105,7 +105,7 @@ no_trouble s low high c z a (inr (inl m)) = let r = (calm_row s low high c z a).
 no_trouble s low high c z a (inr (inr m)) = let r = (calm_row s low high c z a).below in omega arith
 
 pub trouble_tells : (s : State) (ended : ℕ) (l : List Load) → QuietOk s ended l
-    → ((x : Load) → HasLoad x l → word s x.row x.field ≢ x.found → ended < s.gate / 2)
+    → ((x : Load) → In x l → word s x.row x.field ≢ x.found → ended < s.gate / 2)
     × ((low high c : ℕ) → CalmOk s ended low high c → c ≢ 0 → ¬ IsUnmarked (s.stamp c) ⊎ (s.key c < low) ⊎ (high ≤ s.key c) → ended < s.gate / 2)
 trouble_tells s ended l q = (
   (λ x h z. entered_since s ended l q (λ e. z (load_so s x l h (q.quiet e).1))),

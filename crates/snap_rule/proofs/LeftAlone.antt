@@ -8,11 +8,11 @@ use Rattle.snap_rule.specs.State.{State, Change, In, WasLinked, IsShared}
 use Rattle.snap_rule.specs.State.Change.{plain, unlinking, lowering, raising}
 use Rattle.snap_rule.specs.Rule.{TreeOk, ChangesOk}
 use Rattle.snap_rule.specs.Updates.{changed, relink}
-use Rattle.snap_rule.specs.Kinds.Entries.{value_stored, leaf_linked, MayLeaf, absent_confirmed}
-use Rattle.snap_rule.specs.Kinds.Clones.{copy_linked, MayCopy}
-use Rattle.snap_rule.specs.Kinds.Unlinking.{unlinked_marked, MayUnlink, only_child, spliced}
+use Rattle.snap_rule.specs.Kinds.Entries.{value_stored, leaf_linked, MayLinkLeaf, absent_confirmed}
+use Rattle.snap_rule.specs.Kinds.Clones.{copy_linked, MayLinkCopy}
+use Rattle.snap_rule.specs.Kinds.Unlinking.{unlinked_marked, MayMarkUnlinked, only_child, spliced}
 use Rattle.snap_rule.specs.Kinds.Rotation.{shrinking_marked, lowered_linked, raised_linked, parent_linked, shrinking_cleared}
-use Rattle.snap_rule.specs.Kinds.Words.{height_stored, own_stored, MayOwn, lock_stored, header_stored}
+use Rattle.snap_rule.specs.Kinds.Words.{height_stored, own_stored, MayStoreOwn, lock_stored, header_stored}
 use Rattle.snap_rule.specs.TreeChanges.{leaf_of}
 use Rattle.snap_rule.specs.Doing.{Apart}
 use Rattle.snap_rule.specs.Views.{LeavesOthers}
@@ -62,7 +62,7 @@ module _ (s : State) (n : ℕ) where
     live = live_same s (leaf_linked s parent d row e) n (stands_grown parent d (leaf_of row e) s.tree n) refl refl;
   }
 
-  pub copy_apart : (parent : ℕ) (d : Side) (row copy : ℕ) → MayCopy s parent d row copy → n ≢ parent → n ≢ copy → Apart s (copy_linked s parent d row copy) n
+  pub copy_apart : (parent : ℕ) (d : Side) (row copy : ℕ) → MayLinkCopy s parent d row copy → n ≢ parent → n ≢ copy → Apart s (copy_linked s parent d row copy) n
   copy_apart parent d row copy may z y = record {
     stamp = refl;
     link = λ x. relink_other s.link parent d copy n x z;
@@ -72,7 +72,7 @@ module _ (s : State) (n : ℕ) where
     live = λ l. live_same s (copy_linked s parent d row copy) n (stands_renamed row copy s.tree n (λ q. l.own (subst (IsShared s) (sym q) may.shared))) refl refl l;
   }
 
-  pub unlink_apart : (parent : ℕ) (d : Side) (row : ℕ) → TreeOk s → ChangesOk s → MayUnlink s parent d row → n ≢ parent → n ≢ row → Apart s (unlinked_marked s parent d row) n
+  pub unlink_apart : (parent : ℕ) (d : Side) (row : ℕ) → TreeOk s → ChangesOk s → MayMarkUnlinked s parent d row → n ≢ parent → n ≢ row → Apart s (unlinked_marked s parent d row) n
   unlink_apart parent d row tree_ok changes_ok may z y = record {
     stamp = changed_other s.stamp row (s.stamp row + 1) n y;
     link = λ x. refl;
@@ -145,7 +145,7 @@ module _ (s : State) (who : ℕ) where
   fresh_other row n p f (inl z) q = omega (arith, z, q)
   fresh_other row n p f (inr i) q = f (subst (λ (x : ℕ). In x s.linked) q i)
 
-  pub own_leaves : (row k b h v : ℕ) (l : Side → ℕ) → MayOwn s row → LeavesOthers s (own_stored s row k b h v l) who
+  pub own_leaves : (row k b h v : ℕ) (l : Side → ℕ) → MayStoreOwn s row → LeavesOthers s (own_stored s row k b h v l) who
   own_leaves row k b h v l may n i z y = (own_apart s n row k b h v l (fresh_other row n may.is_row may.fresh i), refl)
 
   pub take_leaves : (row x : ℕ) → s.lock row ≡ 0 → LeavesOthers s (lock_stored s row x) who
@@ -157,16 +157,16 @@ module _ (s : State) (who : ℕ) where
   pub header_leaves : (g a w : ℕ) → LeavesOthers s (header_stored s g a w) who
   header_leaves g a w n i z y = (header_apart s n g a w, refl)
 
-  pub leaf_leaves : (parent : ℕ) (d : Side) (row : ℕ) (e : Entry) → MayLeaf s parent d row e → s.lock parent ≡ who + 1 → LeavesOthers s (leaf_linked s parent d row e) who
+  pub leaf_leaves : (parent : ℕ) (d : Side) (row : ℕ) (e : Entry) → MayLinkLeaf s parent d row e → s.lock parent ≡ who + 1 → LeavesOthers s (leaf_linked s parent d row e) who
   leaf_leaves parent d row e may held n i z y = (leaf_apart s n parent d row e (held_other parent n held y) (fresh_other row n may.is_row may.fresh i), refl)
 
   pub store_leaves : (row : ℕ) (e : Entry) → LeavesOthers s (value_stored s row e) who
   store_leaves row e n i z y = (store_apart s n row e, refl)
 
-  pub copy_leaves : (parent : ℕ) (d : Side) (row copy : ℕ) → MayCopy s parent d row copy → s.lock parent ≡ who + 1 → LeavesOthers s (copy_linked s parent d row copy) who
+  pub copy_leaves : (parent : ℕ) (d : Side) (row copy : ℕ) → MayLinkCopy s parent d row copy → s.lock parent ≡ who + 1 → LeavesOthers s (copy_linked s parent d row copy) who
   copy_leaves parent d row copy may held n i z y = (copy_apart s n parent d row copy may (held_other parent n held y) (fresh_other copy n may.is_row may.fresh i), refl)
 
-  pub unlink_leaves : TreeOk s → ChangesOk s → (parent : ℕ) (d : Side) (row : ℕ) → MayUnlink s parent d row → s.lock parent ≡ who + 1 → s.lock row ≡ who + 1 → LeavesOthers s (unlinked_marked s parent d row) who
+  pub unlink_leaves : TreeOk s → ChangesOk s → (parent : ℕ) (d : Side) (row : ℕ) → MayMarkUnlinked s parent d row → s.lock parent ≡ who + 1 → s.lock row ≡ who + 1 → LeavesOthers s (unlinked_marked s parent d row) who
   unlink_leaves tree_ok changes_ok parent d row may a b n i z y = (unlink_apart s n parent d row tree_ok changes_ok may (held_other parent n a y) (held_other row n b y), refl)
 
   pub splice_leaves : (parent : ℕ) (d : Side) → s.lock parent ≡ who + 1 → LeavesOthers s (spliced s parent d) who

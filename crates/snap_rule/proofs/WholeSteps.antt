@@ -35,17 +35,17 @@ linked_parent s n d ok (inr l) = inr (ok.rows n l.stands).0
 
 concerned : (s : State) (g : Doing) (n : ℕ) → TreeOk s → DoingOk s g → Concerns g n → WasLinked s n
 concerned s Nothing n ok h c = absurd c
-concerned s (Unlinked parent d row only) n ok h c = subst (WasLinked s) (sym c) (linked_parent s parent d ok h.0)
-concerned s (Shrunk parent p row d raised) n ok h (inl c) = subst (WasLinked s) (sym c) (linked_parent s parent p ok h.0.parent_live)
-concerned s (Shrunk parent p row d raised) n ok h (inr (inl c)) = subst (WasLinked s) (sym c) (inr (ok.rows row h.0.live.stands).0)
-concerned s (Shrunk parent p row d raised) n ok h (inr (inr c)) = subst (WasLinked s) (sym c) (inr (ok.rows raised h.0.raised_live.stands).0)
-concerned s (Lowered parent p row d raised) n ok h (inl c) = subst (WasLinked s) (sym c) (linked_parent s parent p ok h.0.parent_live)
-concerned s (Lowered parent p row d raised) n ok h (inr (inl c)) = subst (WasLinked s) (sym c) (inr (ok.rows row h.0.live.stands).0)
-concerned s (Lowered parent p row d raised) n ok h (inr (inr c)) = subst (WasLinked s) (sym c) (inr (ok.rows raised h.0.raised_live.stands).0)
-concerned s (Lifted parent p row d raised) n ok h (inl c) = subst (WasLinked s) (sym c) (linked_parent s parent p ok h.0.parent_live)
-concerned s (Lifted parent p row d raised) n ok h (inr (inl c)) = subst (WasLinked s) (sym c) (inr (ok.rows row h.0.live.stands).0)
-concerned s (Lifted parent p row d raised) n ok h (inr (inr c)) = subst (WasLinked s) (sym c) (inr (ok.rows raised h.0.raised_live.stands).0)
-concerned s (Turned row) n ok h c = subst (WasLinked s) (sym c) (inr (ok.rows row h.0.stands).0)
+concerned s (Unlinked parent d row only) n ok h c = subst (WasLinked s) (sym c) (linked_parent s parent d ok h.parent_live)
+concerned s (Shrunk parent p row d raised) n ok h (inl c) = subst (WasLinked s) (sym c) (linked_parent s parent p ok h.turn.parent_live)
+concerned s (Shrunk parent p row d raised) n ok h (inr (inl c)) = subst (WasLinked s) (sym c) (inr (ok.rows row h.turn.live.stands).0)
+concerned s (Shrunk parent p row d raised) n ok h (inr (inr c)) = subst (WasLinked s) (sym c) (inr (ok.rows raised h.turn.raised_live.stands).0)
+concerned s (Lowered parent p row d raised) n ok h (inl c) = subst (WasLinked s) (sym c) (linked_parent s parent p ok h.turn.parent_live)
+concerned s (Lowered parent p row d raised) n ok h (inr (inl c)) = subst (WasLinked s) (sym c) (inr (ok.rows row h.turn.live.stands).0)
+concerned s (Lowered parent p row d raised) n ok h (inr (inr c)) = subst (WasLinked s) (sym c) (inr (ok.rows raised h.turn.raised_live.stands).0)
+concerned s (Lifted parent p row d raised) n ok h (inl c) = subst (WasLinked s) (sym c) (linked_parent s parent p ok h.turn.parent_live)
+concerned s (Lifted parent p row d raised) n ok h (inr (inl c)) = subst (WasLinked s) (sym c) (inr (ok.rows row h.turn.live.stands).0)
+concerned s (Lifted parent p row d raised) n ok h (inr (inr c)) = subst (WasLinked s) (sym c) (inr (ok.rows raised h.turn.raised_live.stands).0)
+concerned s (Turned row) n ok h c = subst (WasLinked s) (sym c) (inr (ok.rows row h.live.stands).0)
 
 module _ (s s' : State) (ev : Evolves s s') where
   reading_kept : (seen : List Entry) (r : Reading) → Begins seen s.history → ReadingOk s seen r → ReadingOk s' seen r

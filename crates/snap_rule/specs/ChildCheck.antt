@@ -4,8 +4,8 @@ use Rattle.std.specs.Prelude.{List, None, ℕ, ◌≡◌}
 use Rattle.snap_model.specs.History.{told}
 use Rattle.snap_model.specs.declared.call.Entry.{Entry}
 use Rattle.snap_rule.specs.Moments.{AtSome}
-use Rattle.snap_rule.specs.Position.{IsPlaced}
-use Rattle.snap_rule.specs.State.{State}
+use Rattle.snap_rule.specs.Position.{IsPlaced, IsRecorded}
+use Rattle.snap_rule.specs.State.{In, State}
 use Rattle.snap_rule.specs.Tree.{value_word}
 
 -- k was absent, at some moment
@@ -15,6 +15,11 @@ WasAbsent s seen k = AtSome seen s.history (λ p. told p k ≡ None)
 -- c's value is that of k, at some moment
 abbrev pub HasTold : State → List Entry → ℕ → ℕ → Type 0
 HasTold s seen c k = AtSome seen s.history (λ p. s.value c ≡ value_word (told p k))
+
+-- a row that a link named, with the stamp that it had, which had no mark
+pub record IsChild (s : State) (c w : ℕ) : Type 0 where
+  pub linked : In c s.linked
+  pub stamp : IsRecorded s c w
 
 pub record IsGone (s : State) (seen : List Entry) (c : ℕ) : Type 0 where
   pub no_value : s.value c ≡ 0

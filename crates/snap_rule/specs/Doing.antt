@@ -1,6 +1,7 @@
 -- A change in progress: what its pass knows after each of its steps, and what a step of another pass leaves of that.
-use Rattle.std.specs.Prelude.{ℕ, ◌%◌, ◌≡◌, ◌≢◌, ◌⊎◌}
+use Rattle.std.specs.Prelude.{ℕ, ◌≡◌, ◌≢◌, ◌⊎◌}
 use Rattle.snap_stamp.specs.Sides.{other}
+use Rattle.snap_stamp.specs.Stamps.{IsLowering}
 use Rattle.snap_stamp.specs.declared.side.Side.{Side}
 use Rattle.snap_rule.specs.Rule.{IsLive, IsParent}
 use Rattle.snap_rule.specs.State.{State}
@@ -31,13 +32,50 @@ pub record IsTurn (s : State) (parent : ℕ) (p : Side) (row : ℕ) (d : Side) (
 abbrev pub NotNamed : State → ℕ → Type 0
 NotNamed s row = (n : ℕ) (e : Side) → s.pending n e ≢ raising row
 
+-- after `mark_unlinked`: the tree is without the row, and the parent's link still names it
+pub record HasUnlinked (s : State) (parent : ℕ) (d : Side) (row only : ℕ) : Type 0 where
+  pub parent_live : IsParent s parent d
+  pub change : s.pending parent d ≡ unlinking row
+  pub child : s.links parent d ≡ only
+
+-- after `mark_shrinking`: no link has moved
+pub record HasShrunk (s : State) (parent : ℕ) (p : Side) (row : ℕ) (d : Side) (raised : ℕ) : Type 0 where
+  pub turn : IsTurn s parent p row d raised
+  pub marked : IsLowering (s.stamp row)
+  pub row_link : s.pending row d ≡ plain
+  pub not_named : NotNamed s row
+
+-- after `link_lowered`: the row's link leads to the subtree between the two
+pub record HasLowered (s : State) (parent : ℕ) (p : Side) (row : ℕ) (d : Side) (raised : ℕ) : Type 0 where
+  pub turn : IsTurn s parent p row d raised
+  pub marked : IsLowering (s.stamp row)
+  pub row_link : s.pending row d ≡ lowering (s.link row d)
+  pub middle : s.link row d ≡ s.links raised (other d)
+  pub not_named : NotNamed s row
+
+-- after `link_raised`: the raised row's link leads to the row, and no other link is raising it
+pub record HasLifted (s : State) (parent : ℕ) (p : Side) (row : ℕ) (d : Side) (raised : ℕ) : Type 0 where
+  pub turn : IsTurn s parent p row d raised
+  pub marked : IsLowering (s.stamp row)
+  pub row_link : s.pending row d ≡ lowering (s.link row d)
+  pub middle : s.link row d ≡ s.links raised (other d)
+  pub raised_link : s.pending raised (other d) ≡ raising row
+  pub named_once : (n : ℕ) (e : Side) → s.pending n e ≡ raising row → (n ≡ raised) × (e ≡ other d)
+
+-- after `link_parent`: the tree has its new form, and the row its mark still
+pub record HasTurned (s : State) (row : ℕ) : Type 0 where
+  pub live : IsLive s row
+  pub marked : IsLowering (s.stamp row)
+  pub no_change : (e : Side) → s.pending row e ≡ plain
+  pub not_named : NotNamed s row
+
 abbrev pub DoingOk : State → Doing → Type 0
 DoingOk s Nothing = Unit {0}
-DoingOk s (Unlinked parent d row only) = IsParent s parent d × (s.pending parent d ≡ unlinking row) × (s.links parent d ≡ only)
-DoingOk s (Shrunk parent p row d raised) = IsTurn s parent p row d raised × (s.stamp row % 4 ≡ 2) × (s.pending row d ≡ plain) × NotNamed s row
-DoingOk s (Lowered parent p row d raised) = IsTurn s parent p row d raised × (s.stamp row % 4 ≡ 2) × (s.pending row d ≡ lowering (s.link row d)) × (s.link row d ≡ s.links raised (other d)) × NotNamed s row
-DoingOk s (Lifted parent p row d raised) = IsTurn s parent p row d raised × (s.stamp row % 4 ≡ 2) × (s.pending row d ≡ lowering (s.link row d)) × (s.link row d ≡ s.links raised (other d)) × (s.pending raised (other d) ≡ raising row) × ((n : ℕ) (e : Side) → s.pending n e ≡ raising row → (n ≡ raised) × (e ≡ other d))
-DoingOk s (Turned row) = IsLive s row × (s.stamp row % 4 ≡ 2) × ((e : Side) → s.pending row e ≡ plain) × NotNamed s row
+DoingOk s (Unlinked parent d row only) = HasUnlinked s parent d row only
+DoingOk s (Shrunk parent p row d raised) = HasShrunk s parent p row d raised
+DoingOk s (Lowered parent p row d raised) = HasLowered s parent p row d raised
+DoingOk s (Lifted parent p row d raised) = HasLifted s parent p row d raised
+DoingOk s (Turned row) = HasTurned s row
 
 -- a step leaves a row alone
 pub record Apart (s s' : State) (n : ℕ) : Type 0 where

@@ -4,7 +4,7 @@ use Rattle.std.specs.Prelude.{None, Some, [], ◌∷◌, ◌≡◌}
 use Rattle.snap_model.specs.declared.call.Call.TheVariants.{Put}
 use Rattle.snap_stamp.specs.declared.side.Side.TheVariants.{Left, Right}
 use Rattle.snap_rule.specs.Debt.{OnPath, Owes, OwesNone}
-use Rattle.snap_rule.specs.Kinds.Rotation.{MayRaise, parent_linked, shrinking_marked}
+use Rattle.snap_rule.specs.Kinds.Rotation.{MayLinkParent, parent_linked, shrinking_marked}
 use Rattle.snap_rule.specs.Position.{IsPlaced}
 use Rattle.snap_rule.specs.Rule.{IsLive, TableOk}
 use Rattle.snap_rule.specs.State.{IsShared, State}
@@ -46,7 +46,7 @@ after_turn = parent_linked turning 0 Right 1 Left 2
 -- the row that is lowered leaves the way of key 3 by a step that leaves its stamp
 pub record LeavesWay : Type 0 where
   pub table : TableOk turning
-  pub may : MayRaise turning 0 Right 1 Left 2
+  pub may : MayLinkParent turning 0 Right 1 Left 2
   pub was : OnWay turning.tree 3 1
   pub own : ¬ IsShared turning 1
   pub same_stamp : after_turn.stamp 1 ≡ turning.stamp 1
@@ -57,7 +57,7 @@ abbrev pub idle_debt : Debt
 idle_debt = record { to_do = Some 3; list = record { row = 1; stamp = 2 } ∷ []; turning = None }
 
 pub record ListedLeaves : Type 0 where
-  pub may : MayRaise turning 0 Right 1 Left 2
+  pub may : MayLinkParent turning 0 Right 1 Left 2
   pub was : Owes turning idle_debt 1 × IsLive turning 1 × OnPath turning idle_debt 1
   pub still : Owes after_turn idle_debt 1
   pub is_not : ¬ OnPath after_turn idle_debt 1

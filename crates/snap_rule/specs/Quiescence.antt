@@ -40,8 +40,3 @@ pub record IsCalm (s : State) (low high c : ℕ) : Type 0 where
 -- so it is where no write was entered since
 abbrev pub CalmOk : State → (ended low high c : ℕ) → Type 0
 CalmOk s ended low high c = s.gate / 2 ≡ ended → IsCalm s low high c
-
--- what was loaded in this call
-abbrev pub HasLoad : Load → List Load → Type 0
-HasLoad x [] = ⊥
-HasLoad x (y ∷ l) = (x ≡ y) ⊎ HasLoad x l

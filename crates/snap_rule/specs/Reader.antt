@@ -3,7 +3,7 @@ use Rattle.std.specs.Prelude.{List, ℕ, ◌≡◌}
 use Rattle.snap_model.specs.History.{Begins}
 use Rattle.snap_model.specs.declared.call.Entry.{Entry}
 use Rattle.snap_stamp.specs.Stamps.{IsUnlinked}
-use Rattle.snap_rule.specs.ChildCheck.{HasTold, IsCandidate, IsGone, WasAbsent}
+use Rattle.snap_rule.specs.ChildCheck.{HasTold, IsCandidate, IsChild, IsGone, WasAbsent}
 use Rattle.snap_rule.specs.Position.{IsRecorded, IsStanding}
 use Rattle.snap_rule.specs.State.{In, State}
 use Rattle.snap_rule.specs.declared.reader.Point.{Point}
@@ -14,9 +14,9 @@ abbrev pub StageOk : State → List Entry → ℕ → Point → Type 0
 StageOk s seen k (Standing n v d) = IsStanding s seen k n v d
 StageOk s seen k (NoLink n v d) = IsStanding s seen k n v d × (s.stamp n ≡ v → WasAbsent s seen k)
 StageOk s seen k (Linked n v d c) = IsStanding s seen k n v d × In c s.linked
-StageOk s seen k (Stamped n v d c w) = IsStanding s seen k n v d × In c s.linked × IsRecorded s c w × (IsUnlinked (s.stamp c) → IsGone s seen c)
-StageOk s seen k (Relinked n v c w) = IsRecorded s n v × In c s.linked × IsRecorded s c w × (s.stamp n ≡ v → IsCandidate s seen k c w)
-StageOk s seen k (Confirmed c w) = In c s.linked × IsRecorded s c w × IsCandidate s seen k c w
+StageOk s seen k (Stamped n v d c w) = IsStanding s seen k n v d × IsChild s c w × (IsUnlinked (s.stamp c) → IsGone s seen c)
+StageOk s seen k (Relinked n v c w) = IsRecorded s n v × IsChild s c w × (s.stamp n ≡ v → IsCandidate s seen k c w)
+StageOk s seen k (Confirmed c w) = IsChild s c w × IsCandidate s seen k c w
 StageOk s seen k ConfirmedNone = WasAbsent s seen k
 StageOk s seen k (Matched c) = In c s.linked × (s.key c ≡ k) × HasTold s seen c k
 

@@ -4,7 +4,7 @@ use Rattle.std.specs.Prelude.{[], ℕ, ◌+◌, ◌/◌, ◌^◌, ◌≡◌, ◌
 use Rattle.snap_model.specs.History.{told}
 use Rattle.snap_stamp.specs.Stamps.{IsShrinking, IsUnlinked, IsUnmarked}
 use Rattle.snap_stamp.specs.declared.side.Side.{Side}
-use Rattle.snap_stamp.specs.declared.side.Side.TheVariants.{Right}
+use Rattle.snap_stamp.specs.declared.side.Side.TheVariants.{Left, Right}
 use Rattle.snap_rule.specs.State.{Change, In, IsShared, Reads, State, WasLinked}
 use Rattle.snap_rule.specs.State.Change.{lowering, plain, raising, unlinking}
 use Rattle.snap_rule.specs.Tree.{Between, Stands, find, root}
@@ -34,6 +34,7 @@ pub record LinksOk (s : State) : Type 0 where
   pub links : (n : ℕ) (d : Side) → WasLinked s n → (s.link n d ≡ 0) ⊎ In (s.link n d) s.linked
   pub births : (n : ℕ) → In n s.linked → s.birth n ≤ s.epoch
   pub zero_stamp : s.stamp 0 ≡ 0
+  pub zero_left : s.link 0 Left ≡ 0
 
 -- shared rows of the tree lead to shared rows
 pub record SharingOk (s : State) : Type 0 where

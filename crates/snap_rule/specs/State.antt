@@ -37,7 +37,8 @@ pub record State : Type 0 where
   -- how many passes are in a write
   pub writers : ℕ
 
-abbrev pub In : ℕ → List ℕ → Type 0
+-- x is an item of the list
+abbrev pub In : {A : Type 0} → A → List A → Type 0
 In x [] = ⊥
 In x (y ∷ ys) = (x ≡ y) ⊎ In x ys
 

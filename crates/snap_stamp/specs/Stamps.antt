@@ -18,6 +18,10 @@ IsShrinking w = w / 2 % 2 ≡ 1
 abbrev pub IsUnlinked : ℕ → Type 0
 IsUnlinked w = w % 2 ≡ 1
 
+-- the first of the two alone, as while a rotation lowers a row of the tree
+abbrev pub IsLowering : ℕ → Type 0
+IsLowering w = w % 4 ≡ 2
+
 -- neither of the two
 abbrev pub IsUnmarked : ℕ → Type 0
 IsUnmarked w = w % 4 ≡ 0

@@ -15,7 +15,7 @@ use Rattle.snap_rule.specs.Rule.{IsLive, TableOk, opened, IsParent}
 use Rattle.snap_rule.specs.Doing.{Apart}
 use Rattle.snap_rule.specs.Kinds.Clones.{cut, MayCut}
 use Rattle.snap_rule.specs.Updates.{changed}
-use Rattle.snap_rule.specs.Kinds.Words.{own_stored, MayOwn, height_stored}
+use Rattle.snap_rule.specs.Kinds.Words.{own_stored, MayStoreOwn, height_stored}
 use Rattle.snap_rule.specs.Kinds.Rotation.{shrinking_marked, parent_linked}
 use Rattle.snap_rule.specs.Debt.{no_debt, IsListed, OwesNone, DebtOk, Turns}
 use Rattle.snap_rule.specs.Settled.{depth, size, least, pairs, one_more, height_at, child_height, IsSettled, top_height, HasValue, IsFull, IsSettledTree}
@@ -121,7 +121,7 @@ heights_height s parent p row h n d ok live child z at y = height_at_other s.hei
     not_row (inr l) e = y (one_link s ok.tree ok.links parent p row live child z n d l.stands e).0
 
 -- a row of its own is filled
-pub own_silent : (s : State) (row k b h v : ℕ) (l : Side → ℕ) → TableOk s → MayOwn s row → IsSilent s (own_stored s row k b h v l)
+pub own_silent : (s : State) (row k b h v : ℕ) (l : Side → ℕ) → TableOk s → MayStoreOwn s row → IsSilent s (own_stored s row k b h v l)
 own_silent s row k b h v l ok may = record {
   linked = λ n i. i;
   stamp = λ n. refl;

@@ -10,7 +10,7 @@ use Rattle.snap_rule.specs.Tree.Tree.{empty, node}
 use Rattle.snap_rule.specs.State.{State, In, IsShared, Reads}
 use Rattle.snap_rule.specs.Rule.{IsLive, TableOk, IsParent}
 use Rattle.snap_rule.specs.Updates.{changed}
-use Rattle.snap_rule.specs.Kinds.Entries.{value_stored, MayStore, absent_confirmed}
+use Rattle.snap_rule.specs.Kinds.Entries.{value_stored, MayStoreValue, absent_confirmed}
 use Rattle.snap_rule.specs.Kinds.Clones.{cut}
 use Rattle.snap_rule.specs.Kinds.Unlinking.{spliced}
 use Rattle.snap_rule.specs.Kinds.Rotation.{lowered_linked, raised_linked}
@@ -42,7 +42,7 @@ pub other_free : (debts : ℕ → Debt) (id m n : ℕ) → IsFree debts id m →
 other_free debts id m n f e = subst (IsFree debts id) (sym e) f
 
 -- a value is stored
-module _ (s : State) (debts : ℕ → Debt) (id row : ℕ) (e : Entry) (ok : TableOk s) (debt : DebtOk s debts) (may : MayStore s row e) (free : IsFree debts id row) where
+module _ (s : State) (debts : ℕ → Debt) (id row : ℕ) (e : Entry) (ok : TableOk s) (debt : DebtOk s debts) (may : MayStoreValue s row e) (free : IsFree debts id row) where
   store_live : (n : ℕ) → IsLive s n → IsLive (value_stored s row e) n
   store_live n l = live_same s (value_stored s row e) n refl refl (stands_with_value row (call_value e.call) s.tree n l.stands) l
 

@@ -15,10 +15,10 @@ use Rattle.snap_rule.specs.State.Change.{plain}
 use Rattle.snap_rule.specs.Rule.{IsLive, TableOk, Fits, IsParent}
 use Rattle.snap_rule.specs.Updates.{changed, relink}
 use Rattle.snap_rule.specs.TreeChanges.{without, leaf_of}
-use Rattle.snap_rule.specs.Kinds.Entries.{leaf_linked, MayLeaf}
-use Rattle.snap_rule.specs.Kinds.Clones.{copy_linked, MayCopy}
-use Rattle.snap_rule.specs.Kinds.Unlinking.{unlinked_marked, MayUnlink, only_child}
-use Rattle.snap_rule.specs.Kinds.Rotation.{parent_linked, MayRaise}
+use Rattle.snap_rule.specs.Kinds.Entries.{leaf_linked, MayLinkLeaf}
+use Rattle.snap_rule.specs.Kinds.Clones.{copy_linked, MayLinkCopy}
+use Rattle.snap_rule.specs.Kinds.Unlinking.{unlinked_marked, MayMarkUnlinked, only_child}
+use Rattle.snap_rule.specs.Kinds.Rotation.{parent_linked, MayLinkParent}
 use Rattle.snap_rule.specs.Settled.{one_more, height_at, child_height, IsSettled}
 use Rattle.snap_rule.specs.declared.debt.Debt.{Debt}
 use Rattle.snap_rule.specs.Debt.{IsListed, Owes, OwesNone, OnPath, DebtOk}
@@ -45,7 +45,7 @@ true_link s parent d ok live e = subst (Fits s parent d) e (ok.changes.fits pare
     place (inr l) = inr l.stands
 
 -- a leaf is linked
-module _ (s : State) (debts : ℕ → Debt) (id parent : ℕ) (d : Side) (row : ℕ) (e : Entry) (ok : TableOk s) (debt : DebtOk s debts) (may : MayLeaf s parent d row e) (is_put : call_value e.call ≢ None) (free : IsFree debts id parent) (none : OwesNone s (debts id)) where
+module _ (s : State) (debts : ℕ → Debt) (id parent : ℕ) (d : Side) (row : ℕ) (e : Entry) (ok : TableOk s) (debt : DebtOk s debts) (may : MayLinkLeaf s parent d row e) (free : IsFree debts id parent) (none : OwesNone s (debts id)) where
   base : ℕ → Side → ℕ
   base = changed s.links row (s.link row)
 
@@ -69,7 +69,7 @@ module _ (s : State) (debts : ℕ → Debt) (id parent : ℕ) (d : Side) (row : 
   leaf_settled =
       let x : child_height (leaf_linked s parent d row e) row Left ≡ 0 = ap (height_at s.height) (leaf_ends Left) in
       let y : child_height (leaf_linked s parent d row e) row Right ≡ 0 = ap (height_at s.height) (leaf_ends Right) in
-      (may.height ∙ sym (ap₂ (λ (i j : ℕ). one_more (max i j)) x y), omega arith, omega arith, inl (λ z. is_put (word_none (call_value e.call) (sym may.value ∙ z))))
+      (may.height ∙ sym (ap₂ (λ (i j : ℕ). one_more (max i j)) x y), omega arith, omega arith, inl (λ z. may.is_put (word_none (call_value e.call) (sym may.value ∙ z))))
 
   leaf_same : (n : ℕ) (x : Side) → Stands n s.tree → n ≢ parent → relink (changed s.links row (s.link row)) parent d row n x ≡ s.links n x
   leaf_same n x h z = relink_other (changed s.links row (s.link row)) parent d row n x z ∙ ap (λ (f : Side → ℕ). f x) (changed_other s.links row (s.link row) n (fresh n h))
@@ -106,7 +106,7 @@ module _ (s : State) (debts : ℕ → Debt) (id parent : ℕ) (d : Side) (row : 
   })
 
 -- a copy is linked
-module _ (s : State) (debts : ℕ → Debt) (parent : ℕ) (d : Side) (row copy : ℕ) (ok : TableOk s) (debt : DebtOk s debts) (may : MayCopy s parent d row copy) where
+module _ (s : State) (debts : ℕ → Debt) (parent : ℕ) (d : Side) (row copy : ℕ) (ok : TableOk s) (debt : DebtOk s debts) (may : MayLinkCopy s parent d row copy) where
   copy_child : s.links parent d ≡ row
   copy_child = sym (true_link s parent d ok may.parent_live may.no_change) ∙ may.child
 
@@ -181,7 +181,7 @@ module _ (s : State) (debts : ℕ → Debt) (parent : ℕ) (d : Side) (row copy 
   })
 
 -- a row is unlinked
-module _ (s : State) (debts : ℕ → Debt) (id parent : ℕ) (d : Side) (row : ℕ) (ok : TableOk s) (debt : DebtOk s debts) (may : MayUnlink s parent d row)
+module _ (s : State) (debts : ℕ → Debt) (id parent : ℕ) (d : Side) (row : ℕ) (ok : TableOk s) (debt : DebtOk s debts) (may : MayMarkUnlinked s parent d row)
     (path : OwesNone s (debts id) ⊎ Aims s (debts id) row ⊎ Aims s (debts id) parent) (free : IsFree debts id parent) where
   unlink_child : s.links parent d ≡ row
   unlink_child = sym (true_link s parent d ok may.parent_live (may.no_change parent d (inl refl))) ∙ may.child
@@ -267,7 +267,7 @@ module _ (s : State) (debts : ℕ → Debt) (id parent : ℕ) (d : Side) (row : 
   })
 
 -- a row is raised above its parent
-module _ (s : State) (debts : ℕ → Debt) (id parent : ℕ) (p : Side) (row : ℕ) (d : Side) (raised : ℕ) (ok : TableOk s) (debt : DebtOk s debts) (may : MayRaise s parent p row d raised) (owe : MayOweRaise s debts id parent row raised) where
+module _ (s : State) (debts : ℕ → Debt) (id parent : ℕ) (p : Side) (row : ℕ) (d : Side) (raised : ℕ) (ok : TableOk s) (debt : DebtOk s debts) (may : MayLinkParent s parent p row d raised) (owe : MayOweRaise s debts id parent row raised) where
   abbrev turned_state : State
   turned_state = parent_linked s parent p row d raised
 

@@ -7,7 +7,7 @@ use Rattle.snap_rule.specs.Tree.{Stands, OnWay}
 use Rattle.snap_rule.specs.State.{State, In}
 use Rattle.snap_rule.specs.Rule.{IsLive, TableOk}
 use Rattle.snap_rule.specs.Updates.{changed}
-use Rattle.snap_rule.specs.Kinds.Rotation.{shrinking_marked, shrinking_cleared, MayClear}
+use Rattle.snap_rule.specs.Kinds.Rotation.{shrinking_marked, shrinking_cleared, MayClearShrinking}
 use Rattle.snap_rule.specs.Kinds.Words.{height_stored}
 use Rattle.snap_rule.specs.Settled.{height_at, child_height, IsSettled}
 use Rattle.snap_rule.specs.declared.debt.Debt.{Debt}
@@ -153,7 +153,7 @@ module _ (s : State) (debts : ℕ → Debt) (id parent : ℕ) (p : Side) (row : 
       some_row n e = cc e
 
 -- and cleared
-pub clear_owes : (s : State) (debts : ℕ → Debt) (id row : ℕ) → TableOk s → DebtOk s debts → MayClear s row → Owes s (debts id) row → IsFree debts id row
+pub clear_owes : (s : State) (debts : ℕ → Debt) (id row : ℕ) → TableOk s → DebtOk s debts → MayClearShrinking s row → Owes s (debts id) row → IsFree debts id row
     → Owing (shrinking_cleared s row) debts id (clear_debt (shrinking_cleared s row) row (debts id))
 clear_owes s debts id row ok debt may o free = owing s (shrinking_cleared s row) debts id (clear_debt (shrinking_cleared s row) row (debts id)) debt
     (marked_step s (shrinking_cleared s row) debts id row (clear_debt (shrinking_cleared s row) row (debts id)) ok debt may.live free refl

@@ -83,10 +83,10 @@ module _ (s s' : State) (ok : TableOk s) (ev : Evolves s s') where
   kept : (g : Doing) (v : Debt) → DoingOk s g → ((n : ℕ) → In n s.linked → Concerns g n → s'.stamp n ≡ s.stamp n) → DebtDoing s g v → DebtDoing s' g v
   kept Nothing v d f h = h
   kept (Unlinked parent x row only) v d f h = h
-  kept (Shrunk parent p row x raised) v d f h = let r = linked_live row d.0.live in turn_kept s s' v row raised ev r (linked_live raised d.0.raised_live) (f row r (inr (inl refl))) h
-  kept (Lowered parent p row x raised) v d f h = let r = linked_live row d.0.live in turn_kept s s' v row raised ev r (linked_live raised d.0.raised_live) (f row r (inr (inl refl))) h
-  kept (Lifted parent p row x raised) v d f h = let r = linked_live row d.0.live in turn_kept s s' v row raised ev r (linked_live raised d.0.raised_live) (f row r (inr (inl refl))) h
-  kept (Turned row) v d f h = still v row (f row (linked_live row d.0) refl) h
+  kept (Shrunk parent p row x raised) v d f h = let r = linked_live row d.turn.live in turn_kept s s' v row raised ev r (linked_live raised d.turn.raised_live) (f row r (inr (inl refl))) h
+  kept (Lowered parent p row x raised) v d f h = let r = linked_live row d.turn.live in turn_kept s s' v row raised ev r (linked_live raised d.turn.raised_live) (f row r (inr (inl refl))) h
+  kept (Lifted parent p row x raised) v d f h = let r = linked_live row d.turn.live in turn_kept s s' v row raised ev r (linked_live raised d.turn.raised_live) (f row r (inr (inl refl))) h
+  kept (Turned row) v d f h = still v row (f row (linked_live row d.live) refl) h
 
 pub debt_holds : (s s' : State) (views : List View) (id : ℕ) (v w : View) (debts debts' : ℕ → Debt) (next next' rows : ℕ) → Holds s views → DebtHolds s views debts next rows → at_seat views id ≡ Some v → w.who ≡ v.who
     → Evolves s s' → next ≤ next' → LeavesOthers s s' v.who → ((k : ℕ) → k ≢ v.who → debts' k ≡ debts k) → (HasRoom s next rows → DebtOk s debts → DebtOk s' debts') → DebtDoing s' w.doing (debts' v.who)

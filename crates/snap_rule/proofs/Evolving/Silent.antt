@@ -13,9 +13,9 @@ use Rattle.snap_rule.specs.Evolves.{Evolves, SameRow}
 use Rattle.snap_rule.specs.Rule.{TreeOk, IsParent}
 use Rattle.snap_rule.specs.Updates.{changed, relink}
 use Rattle.snap_rule.specs.Kinds.Unlinking.{spliced, MaySplice}
-use Rattle.snap_rule.specs.Kinds.Rotation.{lowered_linked, MayLower, raised_linked, MayLift, shrinking_cleared, MayClear}
-use Rattle.snap_rule.specs.Kinds.Words.{height_stored, MayHeighten, own_stored, MayOwn, lock_stored, header_stored, MayCount}
-use Rattle.snap_rule.specs.Kinds.Entries.{leaf_linked, MayLeaf}
+use Rattle.snap_rule.specs.Kinds.Rotation.{lowered_linked, MayLinkLowered, raised_linked, MayLinkRaised, shrinking_cleared, MayClearShrinking}
+use Rattle.snap_rule.specs.Kinds.Words.{height_stored, MayStoreHeight, own_stored, MayStoreOwn, lock_stored, header_stored, MayCount}
+use Rattle.snap_rule.specs.Kinds.Entries.{leaf_linked, MayLinkLeaf}
 use Rattle.snap_rule.specs.TreeChanges.{leaf_of}
 use Rattle.snap_rule.proofs.Moments.{begins_refl}
 use Rattle.snap_rule.proofs.Trees.{way_stands}
@@ -45,13 +45,13 @@ link_evolves s r d v p live writing = record {
 pub splice_evolves : (s : State) (parent : ℕ) (d : Side) (row : ℕ) → MaySplice s parent d row → Evolves s (spliced s parent d)
 splice_evolves s parent d row may = link_evolves s parent d (s.links parent d) (relink s.pending parent d plain) may.parent_live may.writing
 
-pub lower_evolves : (s : State) (row : ℕ) (d : Side) (raised : ℕ) → MayLower s row d raised → Evolves s (lowered_linked s row d raised)
+pub lower_evolves : (s : State) (row : ℕ) (d : Side) (raised : ℕ) → MayLinkLowered s row d raised → Evolves s (lowered_linked s row d raised)
 lower_evolves s row d raised may = link_evolves s row d (s.link raised (other d)) (relink s.pending row d (lowering (s.link raised (other d)))) (inr may.live) may.writing
 
-pub lift_evolves : (s : State) (row : ℕ) (d : Side) (raised : ℕ) → MayLift s row d raised → Evolves s (raised_linked s row d raised)
+pub lift_evolves : (s : State) (row : ℕ) (d : Side) (raised : ℕ) → MayLinkRaised s row d raised → Evolves s (raised_linked s row d raised)
 lift_evolves s row d raised may = link_evolves s raised (other d) row (relink s.pending raised (other d) (raising row)) (inr may.raised_live) may.writing
 
-pub clear_evolves : (s : State) (row : ℕ) → MayClear s row → Evolves s (shrinking_cleared s row)
+pub clear_evolves : (s : State) (row : ℕ) → MayClearShrinking s row → Evolves s (shrinking_cleared s row)
 clear_evolves s row may =
     let away : (n : ℕ) → n ≢ row → changed s.stamp row (s.stamp row + 2) n ≡ s.stamp n = λ n z. changed_other s.stamp row (s.stamp row + 2) n z in
     record {
@@ -73,7 +73,7 @@ clear_evolves s row may =
       quiet = λ z. absurd (may.writing z);
     }
 
-pub height_evolves : (s : State) (row x : ℕ) → MayHeighten s row → Evolves s (height_stored s row x)
+pub height_evolves : (s : State) (row x : ℕ) → MayStoreHeight s row → Evolves s (height_stored s row x)
 height_evolves s row x may = record {
   history = begins_refl s.history;
   linked = λ n h. h;
@@ -91,7 +91,7 @@ height_evolves s row x may = record {
   quiet = λ z. absurd (may.writing z);
 }
 
-pub leaf_evolves : (s : State) (parent : ℕ) (d : Side) (row : ℕ) (e : Entry) → MayLeaf s parent d row e → Evolves s (leaf_linked s parent d row e)
+pub leaf_evolves : (s : State) (parent : ℕ) (d : Side) (row : ℕ) (e : Entry) → MayLinkLeaf s parent d row e → Evolves s (leaf_linked s parent d row e)
 leaf_evolves s parent d row e may = record {
   history = record { rest = e ∷ []; is = refl };
   linked = λ n h. inr h;
@@ -109,11 +109,11 @@ leaf_evolves s parent d row e may = record {
   quiet = λ z. absurd (may.writing z);
 }
 
-pub linked_other : (s : State) (row n : ℕ) → MayOwn s row → WasLinked s n → n ≢ row
+pub linked_other : (s : State) (row n : ℕ) → MayStoreOwn s row → WasLinked s n → n ≢ row
 linked_other s row n may (inl z) e = let p = may.is_row in omega (arith, z, e)
 linked_other s row n may (inr h) e = may.fresh (subst (λ (x : ℕ). In x s.linked) e h)
 
-pub own_evolves : (s : State) (row k b h v : ℕ) (l : Side → ℕ) → TreeOk s → MayOwn s row → Evolves s (own_stored s row k b h v l)
+pub own_evolves : (s : State) (row k b h v : ℕ) (l : Side → ℕ) → TreeOk s → MayStoreOwn s row → Evolves s (own_stored s row k b h v l)
 own_evolves s row k b h v l tree_ok may =
     let same : (n : ℕ) → n ≢ row → SameRow s (own_stored s row k b h v l) n = λ n z. record { key = changed_other s.key row k n z; birth = changed_other s.birth row b n z; stamp = refl; height = changed_other s.height row h n z; value = changed_other s.value row v n z; link = λ d. ap (λ (f : Side → ℕ). f d) (changed_other s.link row l n z) } in
     record {

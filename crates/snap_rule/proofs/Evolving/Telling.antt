@@ -14,10 +14,10 @@ use Rattle.snap_rule.specs.Evolves.{Evolves, SameRow}
 use Rattle.snap_rule.specs.Position.{OnImage}
 use Rattle.snap_rule.specs.Rule.{TreeOk, LinksOk, ChangesOk, Fits, IsParent}
 use Rattle.snap_rule.specs.Updates.{changed}
-use Rattle.snap_rule.specs.Kinds.Entries.{value_stored, MayStore}
-use Rattle.snap_rule.specs.Kinds.Clones.{cut, MayCut, copy_linked, MayCopy}
-use Rattle.snap_rule.specs.Kinds.Unlinking.{unlinked_marked, MayUnlink}
-use Rattle.snap_rule.specs.Kinds.Rotation.{shrinking_marked, MayShrink, parent_linked, MayRaise}
+use Rattle.snap_rule.specs.Kinds.Entries.{value_stored, MayStoreValue}
+use Rattle.snap_rule.specs.Kinds.Clones.{cut, MayCut, copy_linked, MayLinkCopy}
+use Rattle.snap_rule.specs.Kinds.Unlinking.{unlinked_marked, MayMarkUnlinked}
+use Rattle.snap_rule.specs.Kinds.Rotation.{shrinking_marked, MayMarkShrinking, parent_linked, MayLinkParent}
 use Rattle.snap_rule.proofs.Moments.{begins_refl, now}
 use Rattle.snap_rule.proofs.Trees.{way_stands, each_stands, reads_same, subtree_at, row_positive}
 use Rattle.snap_rule.proofs.Maps.{told_same}
@@ -33,7 +33,7 @@ pub same_row : (s : State) (n : ℕ) → SameRow s s n
 same_row s n = record { key = refl; birth = refl; stamp = refl; height = refl; value = refl; link = λ d. refl }
 
 -- a value is stored
-pub store_evolves : (s : State) (row : ℕ) (e : Entry) → TreeOk s → MayStore s row e → Evolves s (value_stored s row e)
+pub store_evolves : (s : State) (row : ℕ) (e : Entry) → TreeOk s → MayStoreValue s row e → Evolves s (value_stored s row e)
 store_evolves s row e tree_ok may =
     let other : (n : ℕ) → n ≢ row → changed s.value row (value_word (call_value e.call)) n ≡ s.value n = λ n z. changed_other s.value row (value_word (call_value e.call)) n z in
     record {
@@ -102,7 +102,7 @@ cut_evolves s tree_ok links_ok changes_ok may = record {
 }
 
 -- a copy is linked
-pub copy_evolves : (s : State) (parent : ℕ) (d : Side) (row copy : ℕ) → MayCopy s parent d row copy → Evolves s (copy_linked s parent d row copy)
+pub copy_evolves : (s : State) (parent : ℕ) (d : Side) (row copy : ℕ) → MayLinkCopy s parent d row copy → Evolves s (copy_linked s parent d row copy)
 copy_evolves s parent d row copy may = record {
   history = begins_refl s.history;
   linked = λ n h. inr h;
@@ -125,7 +125,7 @@ pub word_none : (o : Option ℕ) → value_word o ≡ 0 → o ≡ None
 word_none None e = refl
 word_none (Some v) e = absurd (omega (arith, e))
 
-pub unlink_thin : (s : State) (parent : ℕ) (d : Side) (row : ℕ) → ChangesOk s → MayUnlink s parent d row → (s.link row Left ≡ 0) ⊎ (s.link row Right ≡ 0) → (s.links row Left ≡ 0) ⊎ (s.links row Right ≡ 0)
+pub unlink_thin : (s : State) (parent : ℕ) (d : Side) (row : ℕ) → ChangesOk s → MayMarkUnlinked s parent d row → (s.link row Left ≡ 0) ⊎ (s.link row Right ≡ 0) → (s.links row Left ≡ 0) ⊎ (s.links row Right ≡ 0)
 unlink_thin s parent d row changes_ok may c = elim c [ inl z ↦ inl (sym (same Left) ∙ z) | inr z ↦ inr (sym (same Right) ∙ z) ]
   where
     same : (e : Side) → s.link row e ≡ s.links row e
@@ -139,7 +139,7 @@ stamp_up s row more n = dite (ℕ_discrete n row)
 pub stamp_moves : (s : State) (row more n : ℕ) → 0 < more → changed s.stamp row (s.stamp row + more) n ≡ s.stamp n → n ≢ row
 stamp_moves s row more n z e q = let f = changed_same s.stamp row (s.stamp row + more) in let g : changed s.stamp row (s.stamp row + more) row ≡ s.stamp row = subst (λ (x : ℕ). changed s.stamp row (s.stamp row + more) x ≡ s.stamp x) q e in omega arith
 
-pub unlink_evolves : (s : State) (parent : ℕ) (d : Side) (row : ℕ) → TreeOk s → ChangesOk s → MayUnlink s parent d row → Evolves s (unlinked_marked s parent d row)
+pub unlink_evolves : (s : State) (parent : ℕ) (d : Side) (row : ℕ) → TreeOk s → ChangesOk s → MayMarkUnlinked s parent d row → Evolves s (unlinked_marked s parent d row)
 unlink_evolves s parent d row tree_ok changes_ok may =
     let other : (n : ℕ) → n ≢ row → changed s.stamp row (s.stamp row + 1) n ≡ s.stamp n = λ n z. changed_other s.stamp row (s.stamp row + 1) n z in
     record {
@@ -165,7 +165,7 @@ unlink_evolves s parent d row tree_ok changes_ok may =
     }
 
 -- a row gets the shrinking mark
-pub shrink_evolves : (s : State) (row : ℕ) → MayShrink s row → Evolves s (shrinking_marked s row)
+pub shrink_evolves : (s : State) (row : ℕ) → MayMarkShrinking s row → Evolves s (shrinking_marked s row)
 shrink_evolves s row may =
     let other : (n : ℕ) → n ≢ row → changed s.stamp row (s.stamp row + 2) n ≡ s.stamp n = λ n z. changed_other s.stamp row (s.stamp row + 2) n z in
     record {
@@ -188,7 +188,7 @@ shrink_evolves s row may =
     }
 
 -- the raised row comes into the lowered row's place
-pub raise_evolves : (s : State) (parent : ℕ) (p : Side) (row : ℕ) (d : Side) (raised : ℕ) → TreeOk s → MayRaise s parent p row d raised → Evolves s (parent_linked s parent p row d raised)
+pub raise_evolves : (s : State) (parent : ℕ) (p : Side) (row : ℕ) (d : Side) (raised : ℕ) → TreeOk s → MayLinkParent s parent p row d raised → Evolves s (parent_linked s parent p row d raised)
 raise_evolves s parent p row d raised tree_ok may = record {
   history = begins_refl s.history;
   linked = λ n h. h;

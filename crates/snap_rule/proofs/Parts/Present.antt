@@ -13,9 +13,9 @@ use Rattle.snap_stamp.specs.Stamps.{IsUnlinked}
 use Rattle.snap_rule.specs.Rule.{TreeOk, LinksOk, ChangesOk, PresentOk, IsLive, Fits, IsParent}
 use Rattle.snap_rule.specs.Updates.{changed}
 use Rattle.snap_rule.specs.TreeChanges.{renamed, first_on, grown_below, grown, leaf_of}
-use Rattle.snap_rule.specs.Kinds.Entries.{value_stored, leaf_linked, MayLeaf}
-use Rattle.snap_rule.specs.Kinds.Clones.{cut, copy_linked, MayCopy}
-use Rattle.snap_rule.specs.Kinds.Unlinking.{unlinked_marked, MayUnlink, spliced}
+use Rattle.snap_rule.specs.Kinds.Entries.{value_stored, leaf_linked, MayLinkLeaf}
+use Rattle.snap_rule.specs.Kinds.Clones.{cut, copy_linked, MayLinkCopy}
+use Rattle.snap_rule.specs.Kinds.Unlinking.{unlinked_marked, MayMarkUnlinked, spliced}
 use Rattle.snap_rule.specs.Kinds.Rotation.{shrinking_marked, lowered_linked, raised_linked, parent_linked, shrinking_cleared}
 use Rattle.snap_rule.specs.Kinds.Words.{height_stored}
 use Rattle.snap_rule.proofs.Updates.{changed_same, changed_other}
@@ -93,7 +93,7 @@ module _ (s : State) (ok : PresentOk s) where
   pub clear_present : (row : ℕ) → PresentOk (shrinking_cleared s row)
   clear_present row = record { stands = λ n h u r. ok.stands n h (λ m. u (still_unlinked s row n m)) r; replaced = λ n h. let r = ok.replaced n h in (r.0, record { is_row = r.1.is_row; older = r.1.older }) }
 
-  pub unlink_present : (parent : ℕ) (d : Side) (row : ℕ) → TreeOk s → ChangesOk s → MayUnlink s parent d row → PresentOk (unlinked_marked s parent d row)
+  pub unlink_present : (parent : ℕ) (d : Side) (row : ℕ) → TreeOk s → ChangesOk s → MayMarkUnlinked s parent d row → PresentOk (unlinked_marked s parent d row)
   unlink_present parent d row tree_ok changes_ok may =
       let lean = thin s s.links row s.tree tree_ok.reads (unlink_thin s parent d row changes_ok may may.one_child) in
       let marked : IsUnlinked (changed s.stamp row (s.stamp row + 1) row) = subst IsUnlinked (sym (changed_same s.stamp row (s.stamp row + 1))) (let f = may.unmarked in omega arith) in
@@ -103,7 +103,7 @@ module _ (s : State) (ok : PresentOk s) where
         replaced = λ n h. let r = ok.replaced n h in (r.0, record { is_row = r.1.is_row; older = r.1.older });
       }
 
-  pub copy_present : (parent : ℕ) (d : Side) (row copy : ℕ) → TreeOk s → LinksOk s → ChangesOk s → MayCopy s parent d row copy → PresentOk (copy_linked s parent d row copy)
+  pub copy_present : (parent : ℕ) (d : Side) (row copy : ℕ) → TreeOk s → LinksOk s → ChangesOk s → MayLinkCopy s parent d row copy → PresentOk (copy_linked s parent d row copy)
   copy_present parent d row copy tree_ok links_ok changes_ok may =
       let z : row ≢ 0 = (let p = may.shared.is_row in λ q. omega arith) in
       let child : s.links parent d ≡ row = sym (subst (Fits s parent d) may.no_change (changes_ok.fits parent d (place may.parent_live))) ∙ may.child in
@@ -123,7 +123,7 @@ module _ (s : State) (ok : PresentOk s) where
       place (inl q) = inl q.0
       place (inr l) = inr l.stands
 
-  pub leaf_present : (parent : ℕ) (d : Side) (row : ℕ) (x : Entry) → TreeOk s → ChangesOk s → MayLeaf s parent d row x → PresentOk (leaf_linked s parent d row x)
+  pub leaf_present : (parent : ℕ) (d : Side) (row : ℕ) (x : Entry) → TreeOk s → ChangesOk s → MayLinkLeaf s parent d row x → PresentOk (leaf_linked s parent d row x)
   leaf_present parent d row x tree_ok changes_ok may =
       let none : s.links parent d ≡ 0 = sym (subst (Fits s parent d) may.no_change (changes_ok.fits parent d (place may.parent_live))) ∙ may.no_child in
       record {

@@ -14,10 +14,10 @@ use Rattle.snap_stamp.specs.Stamps.{IsUnlinked}
 use Rattle.snap_rule.specs.Rule.{TreeOk, LinksOk, ChangesOk, Fits, IsParent}
 use Rattle.snap_rule.specs.Updates.{changed, relink}
 use Rattle.snap_rule.specs.TreeChanges.{renamed, without, one_of, rotated, grown, leaf_of}
-use Rattle.snap_rule.specs.Kinds.Entries.{value_stored, MayStore, leaf_linked, MayLeaf}
-use Rattle.snap_rule.specs.Kinds.Clones.{cut, copy_linked, MayCopy}
-use Rattle.snap_rule.specs.Kinds.Unlinking.{unlinked_marked, MayUnlink, only_child, spliced}
-use Rattle.snap_rule.specs.Kinds.Rotation.{shrinking_marked, lowered_linked, raised_linked, parent_linked, MayRaise, shrinking_cleared}
+use Rattle.snap_rule.specs.Kinds.Entries.{value_stored, MayStoreValue, leaf_linked, MayLinkLeaf}
+use Rattle.snap_rule.specs.Kinds.Clones.{cut, copy_linked, MayLinkCopy}
+use Rattle.snap_rule.specs.Kinds.Unlinking.{unlinked_marked, MayMarkUnlinked, only_child, spliced}
+use Rattle.snap_rule.specs.Kinds.Rotation.{shrinking_marked, lowered_linked, raised_linked, parent_linked, MayLinkParent, shrinking_cleared}
 use Rattle.snap_rule.specs.Kinds.Words.{height_stored}
 use Rattle.snap_rule.proofs.Maps.{told_same, told_other}
 use Rattle.snap_rule.proofs.Updates.{changed_same, changed_other, relink_other, same_place, relink_same, relink_away}
@@ -32,7 +32,7 @@ use Rattle.snap_rule.proofs.Trees.Finds.{find_value_same, find_value_other, find
 use Rattle.snap_rule.proofs.Trees.Readings.{root_renamed, reads_renamed, root_without, reads_without, Turning, root_rotated, reads_rotated, reads_grown, root_of_grown, reads_value, root_value, reads_height, root_height}
 
 -- a value is stored
-pub store_tree : (s : State) (row : ℕ) (e : Entry) → TreeOk s → MayStore s row e → TreeOk (value_stored s row e)
+pub store_tree : (s : State) (row : ℕ) (e : Entry) → TreeOk s → MayStoreValue s row e → TreeOk (value_stored s row e)
 store_tree s row e ok may =
     let o : Option ℕ = call_value e.call in
     record {
@@ -127,7 +127,7 @@ without_gone s l r low high (node m a b) o v h = dite (ℕ_discrete m.row r)
     below (inr (inr i)) e f g = g i
 
 -- a row gets the unlinked mark
-pub unlink_tree : (s : State) (parent : ℕ) (d : Side) (row : ℕ) → TreeOk s → LinksOk s → ChangesOk s → MayUnlink s parent d row → TreeOk (unlinked_marked s parent d row)
+pub unlink_tree : (s : State) (parent : ℕ) (d : Side) (row : ℕ) → TreeOk s → LinksOk s → ChangesOk s → MayMarkUnlinked s parent d row → TreeOk (unlinked_marked s parent d row)
 unlink_tree s parent d row ok links_ok changes_ok may =
     let s' : State = unlinked_marked s parent d row in
     let only : ℕ = only_child s row in
@@ -161,7 +161,7 @@ unlink_tree s parent d row ok links_ok changes_ok may =
     place (inr l) = inr l.stands
 
 -- a copy is linked
-pub copy_tree : (s : State) (parent : ℕ) (d : Side) (row copy : ℕ) → TreeOk s → LinksOk s → ChangesOk s → MayCopy s parent d row copy → TreeOk (copy_linked s parent d row copy)
+pub copy_tree : (s : State) (parent : ℕ) (d : Side) (row copy : ℕ) → TreeOk s → LinksOk s → ChangesOk s → MayLinkCopy s parent d row copy → TreeOk (copy_linked s parent d row copy)
 copy_tree s parent d row copy ok links_ok changes_ok may =
     let s' : State = copy_linked s parent d row copy in
     let base : ℕ → Side → ℕ = changed s.links copy (s.link copy) in
@@ -216,7 +216,7 @@ has_top s l empty n v h z = h
 has_top s l (node m a b) n v h z = omega (arith, v.0.is_row, z)
 
 -- a leaf is linked
-pub leaf_tree : (s : State) (parent : ℕ) (d : Side) (row : ℕ) (x : Entry) → TreeOk s → ChangesOk s → MayLeaf s parent d row x → TreeOk (leaf_linked s parent d row x)
+pub leaf_tree : (s : State) (parent : ℕ) (d : Side) (row : ℕ) (x : Entry) → TreeOk s → ChangesOk s → MayLinkLeaf s parent d row x → TreeOk (leaf_linked s parent d row x)
 leaf_tree s parent d row x ok changes_ok may =
     let s' : State = leaf_linked s parent d row x in
     let leaf : Node = leaf_of row x in
@@ -272,7 +272,7 @@ other_side Left q = cc
 other_side Right q = cc
 
 -- the raised row comes into the lowered row's place
-pub raise_tree : (s : State) (parent : ℕ) (p : Side) (row : ℕ) (d : Side) (raised : ℕ) → TreeOk s → LinksOk s → ChangesOk s → MayRaise s parent p row d raised → TreeOk (parent_linked s parent p row d raised)
+pub raise_tree : (s : State) (parent : ℕ) (p : Side) (row : ℕ) (d : Side) (raised : ℕ) → TreeOk s → LinksOk s → ChangesOk s → MayLinkParent s parent p row d raised → TreeOk (parent_linked s parent p row d raised)
 raise_tree s parent p row d raised ok links_ok changes_ok may =
     let s' : State = parent_linked s parent p row d raised in
     let one : ℕ → Side → ℕ = relink s.links row d (s.link row d) in

@@ -17,17 +17,17 @@ pub none_confirmed : (s : State) (seen : List Entry) (k n v : ℕ) (d : Side) �
 none_confirmed s seen k n v d h e = record { begins = h.begins; at_stage = h.at_stage.1 e }
 
 pub row_confirmed : (s : State) (seen : List Entry) (k n v c w : ℕ) → ReaderOk s seen k (Relinked n v c w) → s.stamp n ≡ v → ReaderOk s seen k (Confirmed c w)
-row_confirmed s seen k n v c w h e = record { begins = h.begins; at_stage = (h.at_stage.1, h.at_stage.2, h.at_stage.3 e) }
+row_confirmed s seen k n v c w h e = record { begins = h.begins; at_stage = (h.at_stage.1, h.at_stage.2 e) }
 
 -- c's key is another, or the key
 pub key_differs : (s : State) (links_ok : LinksOk s) (seen : List Entry) (k c w : ℕ) (d : Side) → ReaderOk s seen k (Confirmed c w) → Toward d k (s.key c) → ReaderOk s seen k (Standing c w d)
 key_differs s links_ok seen k c w d h t = record {
   begins = h.begins;
-  at_stage = record { stamp = h.at_stage.1; faces = inr ((λ e. links_ok.no_zero (rw e at h.at_stage.0)), t); placed = h.at_stage.2.placed };
+  at_stage = record { stamp = h.at_stage.0.stamp; faces = inr ((λ e. links_ok.no_zero (rw e at h.at_stage.0.linked)), t); placed = h.at_stage.1.placed };
 }
 
 pub key_matches : (s : State) (seen : List Entry) (k c w : ℕ) → ReaderOk s seen k (Confirmed c w) → s.key c ≡ k → ReaderOk s seen k (Matched c)
-key_matches s seen k c w h e = record { begins = h.begins; at_stage = (h.at_stage.0, e, h.at_stage.2.tells e) }
+key_matches s seen k c w h e = record { begins = h.begins; at_stage = (h.at_stage.0.linked, e, h.at_stage.1.tells e) }
 
 value_of_word : (o : Option ℕ) → value_of (value_word o) ≡ o
 value_of_word None = refl

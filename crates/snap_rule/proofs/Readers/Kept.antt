@@ -10,7 +10,7 @@ use Rattle.snap_rule.specs.State.{State, In, WasLinked, IsShared, IsImage}
 use Rattle.snap_stamp.specs.Stamps.{IsUnmarked, IsUnlinked}
 use Rattle.snap_rule.specs.Evolves.{Evolves}
 use Rattle.snap_rule.specs.Position.{OnImage, IsPlaced, Faces, IsRecorded, IsStanding}
-use Rattle.snap_rule.specs.ChildCheck.{WasAbsent, HasTold, IsGone, IsCandidate}
+use Rattle.snap_rule.specs.ChildCheck.{WasAbsent, HasTold, IsGone, IsCandidate, IsChild}
 use Rattle.snap_rule.specs.Reader.{StageOk, ReaderOk}
 use Rattle.snap_rule.specs.declared.reader.Point.{Point}
 use Rattle.snap_rule.specs.declared.reader.Point.TheVariants.{Standing, NoLink, Linked, Stamped, Relinked, Confirmed, ConfirmedNone, Matched}
@@ -97,13 +97,16 @@ module _ (s s' : State) (ev : Evolves s s') where
     tells = λ e. let q = sym (ev.key c h) ∙ e in told_kept seen c k b h q (a.tells q);
   }
 
+  child_kept : (c w : ℕ) → IsChild s c w → IsChild s' c w
+  child_kept c w h = record { linked = ev.linked c h.linked; stamp = recorded_kept c w h.stamp }
+
   pub stage_kept : (seen : List Entry) (k : ℕ) (t : Point) → Begins seen s.history → StageOk s seen k t → StageOk s' seen k t
   stage_kept seen k (Standing n v d) b h = standing_kept seen k n v d b h
   stage_kept seen k (NoLink n v d) b h = (standing_kept seen k n v d b h.0, λ e. absent_kept seen k (h.1 (same_stamp n v h.0.stamp e)))
   stage_kept seen k (Linked n v d c) b h = (standing_kept seen k n v d b h.0, ev.linked c h.1)
-  stage_kept seen k (Stamped n v d c w) b h = (standing_kept seen k n v d b h.0, ev.linked c h.1, recorded_kept c w h.2, unlinked_kept seen c b h.1 h.3)
-  stage_kept seen k (Relinked n v c w) b h = (recorded_kept n v h.0, ev.linked c h.1, recorded_kept c w h.2, λ e. candidate_kept seen k c w b h.1 h.2 (h.3 (same_stamp n v h.0 e)))
-  stage_kept seen k (Confirmed c w) b h = (ev.linked c h.0, recorded_kept c w h.1, candidate_kept seen k c w b h.0 h.1 h.2)
+  stage_kept seen k (Stamped n v d c w) b h = (standing_kept seen k n v d b h.0, child_kept c w h.1, unlinked_kept seen c b h.1.linked h.2)
+  stage_kept seen k (Relinked n v c w) b h = (recorded_kept n v h.0, child_kept c w h.1, λ e. candidate_kept seen k c w b h.1.linked h.1.stamp (h.2 (same_stamp n v h.0 e)))
+  stage_kept seen k (Confirmed c w) b h = (child_kept c w h.0, candidate_kept seen k c w b h.0.linked h.0.stamp h.1)
   stage_kept seen k ConfirmedNone b h = absent_kept seen k h
   stage_kept seen k (Matched c) b h = (ev.linked c h.0, ev.key c h.0 ∙ h.1, told_kept seen c k b h.0 h.1 h.2)
 

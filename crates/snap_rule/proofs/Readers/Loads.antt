@@ -149,5 +149,5 @@ way_starts s seen k b = record { begins = b; at_stage = record { stamp = record 
 pub stamp_loaded : (s : State) (seen : List Entry) (k n v c w : ℕ) (d : Side) → ReaderOk s seen k (Linked n v d c) → s.stamp c ≡ w → IsUnmarked w → ReaderOk s seen k (Stamped n v d c w)
 stamp_loaded s seen k n v c w d h e u = record {
   begins = h.begins;
-  at_stage = (h.at_stage.0, h.at_stage.1, record { reached = inr h.at_stage.1; unmarked = u; recorded = omega (arith, e) }, λ m. absurd (unmarked_unlinked w u (rw e at m)));
+  at_stage = (h.at_stage.0, record { linked = h.at_stage.1; stamp = record { reached = inr h.at_stage.1; unmarked = u; recorded = omega (arith, e) } }, λ m. absurd (unmarked_unlinked w u (rw e at m)));
 }

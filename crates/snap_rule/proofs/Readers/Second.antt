@@ -102,5 +102,5 @@ module _ (s : State) (tree_ok : TreeOk s) (links_ok : LinksOk s) (sharing_ok : S
       let a = h.at_stage in
       record {
         begins = h.begins;
-        at_stage = (a.0.stamp, a.1, a.2, λ e. candidate seen k n v c w d h.begins a.0 e q (linked_row s tree_ok links_ok changes_ok c a.1) a.2.unmarked a.3 (in_tree s tree_ok links_ok changes_ok seen k n (a.0.placed e)));
+        at_stage = (a.0.stamp, a.1, λ e. candidate seen k n v c w d h.begins a.0 e q (linked_row s tree_ok links_ok changes_ok c a.1.linked) a.1.stamp.unmarked a.2 (in_tree s tree_ok links_ok changes_ok seen k n (a.0.placed e)));
       }

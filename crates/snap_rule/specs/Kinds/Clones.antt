@@ -19,7 +19,7 @@ pub record MayCut (s : State) : Type 0 where
 abbrev pub copy_linked : State → ℕ → Side → ℕ → ℕ → State
 copy_linked s parent d row copy = record s { link = relink s.link parent d copy; links = relink (changed s.links copy (s.link copy)) parent d copy; tree = renamed row copy s.tree; linked = copy ∷ s.linked; replaced = row ∷ s.replaced }
 
-pub record MayCopy (s : State) (parent : ℕ) (d : Side) (row copy : ℕ) : Type 0 where
+pub record MayLinkCopy (s : State) (parent : ℕ) (d : Side) (row copy : ℕ) : Type 0 where
   pub writing : s.writers ≢ 0
   pub parent_live : IsParent s parent d
   pub shared : IsShared s row

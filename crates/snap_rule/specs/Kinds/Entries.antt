@@ -15,7 +15,7 @@ use Rattle.snap_rule.specs.Updates.{changed, relink}
 abbrev pub value_stored : State → ℕ → Entry → State
 value_stored s row e = record s { value = changed s.value row (value_word (call_value e.call)); history = s.history ++ e ∷ []; tree = with_value row (call_value e.call) s.tree }
 
-pub record MayStore (s : State) (row : ℕ) (e : Entry) : Type 0 where
+pub record MayStoreValue (s : State) (row : ℕ) (e : Entry) : Type 0 where
   pub writing : s.writers ≢ 0
   pub live : IsLive s row
   pub key : s.key row ≡ call_key e.call
@@ -29,12 +29,13 @@ leaf_linked s parent d row e = record s {
   linked = row ∷ s.linked;
 }
 
-pub record MayLeaf (s : State) (parent : ℕ) (d : Side) (row : ℕ) (e : Entry) : Type 0 where
+pub record MayLinkLeaf (s : State) (parent : ℕ) (d : Side) (row : ℕ) (e : Entry) : Type 0 where
   pub writing : s.writers ≢ 0
   pub parent_live : IsParent s parent d
   pub no_child : s.link parent d ≡ 0
   pub no_change : s.pending parent d ≡ plain
   pub place : (parent ≡ 0) ⊎ OnWay s.tree (call_key e.call) parent × Toward d (call_key e.call) (s.key parent)
+  pub is_put : call_value e.call ≢ None
   pub small : call_key e.call < 2 ^ 64
   pub is_row : 0 < row
   pub fresh : ¬ In row s.linked
@@ -49,6 +50,6 @@ pub record MayLeaf (s : State) (parent : ℕ) (d : Side) (row : ℕ) (e : Entry)
 abbrev pub absent_confirmed : State → Entry → State
 absent_confirmed s e = record s { history = s.history ++ e ∷ [] }
 
-pub record MayConfirm (s : State) (e : Entry) : Type 0 where
+pub record MayConfirmAbsent (s : State) (e : Entry) : Type 0 where
   pub removal : call_value e.call ≡ None
   pub absent : find s.tree (call_key e.call) ≡ None

@@ -1,8 +1,8 @@
 -- A rotation in five steps: the row that is to be lowered gets the shrinking mark, its link takes over the subtree
 -- between the two, the raised child's link takes the row, the parent's link takes the raised child, and the mark goes.
-use Rattle.std.specs.Prelude.{ℕ, ◌%◌, ◌+◌, ◌≡◌, ◌≢◌}
+use Rattle.std.specs.Prelude.{ℕ, ◌+◌, ◌≡◌, ◌≢◌}
 use Rattle.snap_stamp.specs.Sides.{other}
-use Rattle.snap_stamp.specs.Stamps.{IsUnmarked}
+use Rattle.snap_stamp.specs.Stamps.{IsLowering, IsUnmarked}
 use Rattle.snap_stamp.specs.declared.side.Side.{Side}
 use Rattle.snap_rule.specs.Rule.{IsLive, IsParent}
 use Rattle.snap_rule.specs.State.{State}
@@ -14,7 +14,7 @@ use Rattle.snap_rule.specs.Updates.{changed, relink}
 abbrev pub shrinking_marked : State → ℕ → State
 shrinking_marked s row = record s { stamp = changed s.stamp row (s.stamp row + 2) }
 
-pub record MayShrink (s : State) (row : ℕ) : Type 0 where
+pub record MayMarkShrinking (s : State) (row : ℕ) : Type 0 where
   pub writing : s.writers ≢ 0
   pub live : IsLive s row
   pub unmarked : IsUnmarked (s.stamp row)
@@ -23,21 +23,21 @@ pub record MayShrink (s : State) (row : ℕ) : Type 0 where
 abbrev pub lowered_linked : State → ℕ → Side → ℕ → State
 lowered_linked s row d raised = record s { link = relink s.link row d (s.link raised (other d)); pending = relink s.pending row d (lowering (s.link raised (other d))) }
 
-pub record MayLower (s : State) (row : ℕ) (d : Side) (raised : ℕ) : Type 0 where
+pub record MayLinkLowered (s : State) (row : ℕ) (d : Side) (raised : ℕ) : Type 0 where
   pub writing : s.writers ≢ 0
   pub live : IsLive s row
   pub raised_live : IsLive s raised
-  pub marked : s.stamp row % 4 ≡ 2
+  pub marked : IsLowering (s.stamp row)
 
 -- the raised row's link across comes to be the lowered row
 abbrev pub raised_linked : State → ℕ → Side → ℕ → State
 raised_linked s row d raised = record s { link = relink s.link raised (other d) row; pending = relink s.pending raised (other d) (raising row) }
 
-pub record MayLift (s : State) (row : ℕ) (d : Side) (raised : ℕ) : Type 0 where
+pub record MayLinkRaised (s : State) (row : ℕ) (d : Side) (raised : ℕ) : Type 0 where
   pub writing : s.writers ≢ 0
   pub live : IsLive s row
   pub raised_live : IsLive s raised
-  pub marked : s.stamp row % 4 ≡ 2
+  pub marked : IsLowering (s.stamp row)
 
 -- the raised row comes into the lowered row's place
 abbrev pub parent_linked : State → ℕ → Side → ℕ → Side → ℕ → State
@@ -48,13 +48,13 @@ parent_linked s parent p row d raised = record s {
   pending = relink (relink s.pending row d plain) raised (other d) plain;
 }
 
-pub record MayRaise (s : State) (parent : ℕ) (p : Side) (row : ℕ) (d : Side) (raised : ℕ) : Type 0 where
+pub record MayLinkParent (s : State) (parent : ℕ) (p : Side) (row : ℕ) (d : Side) (raised : ℕ) : Type 0 where
   pub writing : s.writers ≢ 0
   pub parent_live : IsParent s parent p
   pub live : IsLive s row
   pub raised_live : IsLive s raised
   pub child : s.link parent p ≡ row
-  pub marked : s.stamp row % 4 ≡ 2
+  pub marked : IsLowering (s.stamp row)
   pub no_change : s.pending parent p ≡ plain
   pub lowered : s.pending row d ≡ lowering (s.link row d)
   pub raising_is : s.pending raised (other d) ≡ raising row
@@ -66,9 +66,9 @@ pub record MayRaise (s : State) (parent : ℕ) (p : Side) (row : ℕ) (d : Side)
 abbrev pub shrinking_cleared : State → ℕ → State
 shrinking_cleared s row = record s { stamp = changed s.stamp row (s.stamp row + 2) }
 
-pub record MayClear (s : State) (row : ℕ) : Type 0 where
+pub record MayClearShrinking (s : State) (row : ℕ) : Type 0 where
   pub writing : s.writers ≢ 0
   pub live : IsLive s row
-  pub marked : s.stamp row % 4 ≡ 2
+  pub marked : IsLowering (s.stamp row)
   pub no_change : (e : Side) → s.pending row e ≡ plain
   pub not_named : (n : ℕ) (e : Side) → s.pending n e ≢ raising row

@@ -16,7 +16,7 @@ only_child s row = if s.link row Left == 0 then s.link row Right else s.link row
 abbrev pub unlinked_marked : State → ℕ → Side → ℕ → State
 unlinked_marked s parent d row = record s { stamp = changed s.stamp row (s.stamp row + 1); links = relink s.links parent d (only_child s row); tree = without row s.tree; pending = relink s.pending parent d (unlinking row) }
 
-pub record MayUnlink (s : State) (parent : ℕ) (d : Side) (row : ℕ) : Type 0 where
+pub record MayMarkUnlinked (s : State) (parent : ℕ) (d : Side) (row : ℕ) : Type 0 where
   pub writing : s.writers ≢ 0
   pub parent_live : IsParent s parent d
   pub live : IsLive s row

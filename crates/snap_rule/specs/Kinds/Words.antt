@@ -10,7 +10,7 @@ use Rattle.snap_rule.specs.Updates.{changed}
 abbrev pub height_stored : State → ℕ → ℕ → State
 height_stored s row h = record s { height = changed s.height row h; tree = with_height row h s.tree }
 
-pub record MayHeighten (s : State) (row : ℕ) : Type 0 where
+pub record MayStoreHeight (s : State) (row : ℕ) : Type 0 where
   pub writing : s.writers ≢ 0
   pub live : IsLive s row
 
@@ -18,7 +18,7 @@ pub record MayHeighten (s : State) (row : ℕ) : Type 0 where
 abbrev pub own_stored : State → ℕ → (k b h v : ℕ) → (Side → ℕ) → State
 own_stored s row k b h v l = record s { key = changed s.key row k; birth = changed s.birth row b; height = changed s.height row h; value = changed s.value row v; link = changed s.link row l }
 
-pub record MayOwn (s : State) (row : ℕ) : Type 0 where
+pub record MayStoreOwn (s : State) (row : ℕ) : Type 0 where
   pub is_row : 0 < row
   pub fresh : ¬ In row s.linked
 

@@ -5,10 +5,10 @@ use Rattle.snap_stamp.specs.Sides.{other}
 use Rattle.snap_stamp.specs.Stamps.{IsUnmarked}
 use Rattle.snap_stamp.specs.declared.side.Side.{Side}
 use Rattle.snap_rule.specs.Doing.{Apart, Concerns, DoingOk, IsTurn, NotNamed}
-use Rattle.snap_rule.specs.Kinds.Clones.{MayCopy, copy_linked}
+use Rattle.snap_rule.specs.Kinds.Clones.{MayLinkCopy, copy_linked}
 use Rattle.snap_rule.specs.Kinds.Entries.{leaf_linked, value_stored}
-use Rattle.snap_rule.specs.Kinds.Rotation.{MayClear, MayLift, MayLower, MayRaise, lowered_linked, parent_linked, raised_linked, shrinking_cleared, shrinking_marked}
-use Rattle.snap_rule.specs.Kinds.Unlinking.{MaySplice, MayUnlink, only_child, spliced, unlinked_marked}
+use Rattle.snap_rule.specs.Kinds.Rotation.{MayClearShrinking, MayLinkRaised, MayLinkLowered, MayLinkParent, lowered_linked, parent_linked, raised_linked, shrinking_cleared, shrinking_marked}
+use Rattle.snap_rule.specs.Kinds.Unlinking.{MaySplice, MayMarkUnlinked, only_child, spliced, unlinked_marked}
 use Rattle.snap_rule.specs.Kinds.Words.{header_stored, height_stored, lock_stored, own_stored}
 use Rattle.snap_rule.specs.Rule.{TableOk}
 use Rattle.snap_rule.specs.State.{State}
@@ -18,7 +18,7 @@ use Rattle.snap_rule.specs.declared.change.Doing.TheVariants.{Lifted, Lowered, S
 
 -- a pass in a change: what its last step left is the condition of its next
 abbrev pub UnlinkDoing : Type 0
-UnlinkDoing = (s : State) (parent : ℕ) (d : Side) (row : ℕ) → TableOk s → MayUnlink s parent d row → DoingOk (unlinked_marked s parent d row) (Unlinked parent d row (only_child s row))
+UnlinkDoing = (s : State) (parent : ℕ) (d : Side) (row : ℕ) → TableOk s → MayMarkUnlinked s parent d row → DoingOk (unlinked_marked s parent d row) (Unlinked parent d row (only_child s row))
 
 abbrev pub SpliceDoing : Type 0
 SpliceDoing = (s : State) (parent : ℕ) (d : Side) (row only : ℕ) → s.writers ≢ 0 → DoingOk s (Unlinked parent d row only) → MaySplice s parent d row × (s.links parent d ≡ only)
@@ -27,16 +27,16 @@ abbrev pub ShrinkDoing : Type 0
 ShrinkDoing = (s : State) (parent : ℕ) (p : Side) (row : ℕ) (d : Side) (raised : ℕ) → IsTurn s parent p row d raised → IsUnmarked (s.stamp row) → s.pending row d ≡ plain → NotNamed s row → DoingOk (shrinking_marked s row) (Shrunk parent p row d raised)
 
 abbrev pub LowerDoing : Type 0
-LowerDoing = (s : State) (parent : ℕ) (p : Side) (row : ℕ) (d : Side) (raised : ℕ) → TableOk s → s.writers ≢ 0 → s.pending raised (other d) ≡ plain → DoingOk s (Shrunk parent p row d raised) → MayLower s row d raised × DoingOk (lowered_linked s row d raised) (Lowered parent p row d raised)
+LowerDoing = (s : State) (parent : ℕ) (p : Side) (row : ℕ) (d : Side) (raised : ℕ) → TableOk s → s.writers ≢ 0 → s.pending raised (other d) ≡ plain → DoingOk s (Shrunk parent p row d raised) → MayLinkLowered s row d raised × DoingOk (lowered_linked s row d raised) (Lowered parent p row d raised)
 
 abbrev pub LiftDoing : Type 0
-LiftDoing = (s : State) (parent : ℕ) (p : Side) (row : ℕ) (d : Side) (raised : ℕ) → s.writers ≢ 0 → DoingOk s (Lowered parent p row d raised) → MayLift s row d raised × DoingOk (raised_linked s row d raised) (Lifted parent p row d raised)
+LiftDoing = (s : State) (parent : ℕ) (p : Side) (row : ℕ) (d : Side) (raised : ℕ) → s.writers ≢ 0 → DoingOk s (Lowered parent p row d raised) → MayLinkRaised s row d raised × DoingOk (raised_linked s row d raised) (Lifted parent p row d raised)
 
 abbrev pub RaiseDoing : Type 0
-RaiseDoing = (s : State) (parent : ℕ) (p : Side) (row : ℕ) (d : Side) (raised : ℕ) → s.writers ≢ 0 → DoingOk s (Lifted parent p row d raised) → MayRaise s parent p row d raised × DoingOk (parent_linked s parent p row d raised) (Turned row)
+RaiseDoing = (s : State) (parent : ℕ) (p : Side) (row : ℕ) (d : Side) (raised : ℕ) → s.writers ≢ 0 → DoingOk s (Lifted parent p row d raised) → MayLinkParent s parent p row d raised × DoingOk (parent_linked s parent p row d raised) (Turned row)
 
 abbrev pub ClearDoing : Type 0
-ClearDoing = (s : State) (row : ℕ) → s.writers ≢ 0 → DoingOk s (Turned row) → MayClear s row
+ClearDoing = (s : State) (row : ℕ) → s.writers ≢ 0 → DoingOk s (Turned row) → MayClearShrinking s row
 
 -- another pass's step leaves a change alone whose rows it leaves alone
 abbrev pub DoingKept : Type 0
@@ -49,8 +49,8 @@ pub record LeavesAlone (s : State) (n : ℕ) : Type 0 where
   pub header : (g a w : ℕ) → Apart s (header_stored s g a w) n
   pub leaf : (parent : ℕ) (d : Side) (row : ℕ) (e : Entry) → n ≢ parent → n ≢ row → Apart s (leaf_linked s parent d row e) n
   pub store : (row : ℕ) (e : Entry) → Apart s (value_stored s row e) n
-  pub copy : (parent : ℕ) (d : Side) (row copy : ℕ) → MayCopy s parent d row copy → n ≢ parent → n ≢ copy → Apart s (copy_linked s parent d row copy) n
-  pub unlink : (parent : ℕ) (d : Side) (row : ℕ) → MayUnlink s parent d row → n ≢ parent → n ≢ row → Apart s (unlinked_marked s parent d row) n
+  pub copy : (parent : ℕ) (d : Side) (row copy : ℕ) → MayLinkCopy s parent d row copy → n ≢ parent → n ≢ copy → Apart s (copy_linked s parent d row copy) n
+  pub unlink : (parent : ℕ) (d : Side) (row : ℕ) → MayMarkUnlinked s parent d row → n ≢ parent → n ≢ row → Apart s (unlinked_marked s parent d row) n
   pub splice : (parent : ℕ) (d : Side) → n ≢ parent → Apart s (spliced s parent d) n
   pub shrink : (row : ℕ) → n ≢ row → Apart s (shrinking_marked s row) n
   pub lower : (row : ℕ) (d : Side) (raised : ℕ) → n ≢ row → Apart s (lowered_linked s row d raised) n

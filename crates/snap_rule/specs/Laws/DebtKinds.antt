@@ -8,21 +8,21 @@ use Rattle.snap_rule.specs.Debt.Kinds.{AimsAtTurn, MayAim, MayOweHeight, MayOweR
 use Rattle.snap_rule.specs.Debt.Lists.{Aims, aimed, noted, taken}
 use Rattle.snap_rule.specs.Debt.Step.{IsFree, IsSilent, Owing}
 use Rattle.snap_rule.specs.Evolves.{Evolves}
-use Rattle.snap_rule.specs.Kinds.Clones.{MayCopy, copy_linked, cut}
-use Rattle.snap_rule.specs.Kinds.Entries.{MayLeaf, MayStore, absent_confirmed, leaf_linked, value_stored}
-use Rattle.snap_rule.specs.Kinds.Rotation.{MayClear, MayRaise, MayShrink, lowered_linked, parent_linked, raised_linked, shrinking_cleared, shrinking_marked}
-use Rattle.snap_rule.specs.Kinds.Unlinking.{MayUnlink, spliced, unlinked_marked}
-use Rattle.snap_rule.specs.Kinds.Words.{MayOwn, header_stored, height_stored, lock_stored, own_stored}
+use Rattle.snap_rule.specs.Kinds.Clones.{MayLinkCopy, copy_linked, cut}
+use Rattle.snap_rule.specs.Kinds.Entries.{MayLinkLeaf, MayStoreValue, absent_confirmed, leaf_linked, value_stored}
+use Rattle.snap_rule.specs.Kinds.Rotation.{MayClearShrinking, MayLinkParent, MayMarkShrinking, lowered_linked, parent_linked, raised_linked, shrinking_cleared, shrinking_marked}
+use Rattle.snap_rule.specs.Kinds.Unlinking.{MayMarkUnlinked, spliced, unlinked_marked}
+use Rattle.snap_rule.specs.Kinds.Words.{MayStoreOwn, header_stored, height_stored, lock_stored, own_stored}
 use Rattle.snap_rule.specs.Rule.{TableOk, opened}
 use Rattle.snap_rule.specs.State.{In, State}
 use Rattle.snap_rule.specs.declared.debt.Debt.{Debt}
 
 abbrev pub StoreOwes : Type 0
-StoreOwes = (s : State) (debts : ℕ → Debt) (id row : ℕ) (e : Entry) → TableOk s → DebtOk s debts → MayStore s row e → IsFree debts id row
+StoreOwes = (s : State) (debts : ℕ → Debt) (id row : ℕ) (e : Entry) → TableOk s → DebtOk s debts → MayStoreValue s row e → IsFree debts id row
     → (call_value e.call ≡ None → OwesNone s (debts id)) → Owing (value_stored s row e) debts id (stored_debt s row (call_key e.call) (call_value e.call) (debts id))
 
 abbrev pub LeafOwes : Type 0
-LeafOwes = (s : State) (debts : ℕ → Debt) (id parent : ℕ) (d : Side) (row : ℕ) (e : Entry) → TableOk s → DebtOk s debts → MayLeaf s parent d row e → call_value e.call ≢ None → IsFree debts id parent
+LeafOwes = (s : State) (debts : ℕ → Debt) (id parent : ℕ) (d : Side) (row : ℕ) (e : Entry) → TableOk s → DebtOk s debts → MayLinkLeaf s parent d row e → IsFree debts id parent
     → OwesNone s (debts id) → Owing (leaf_linked s parent d row e) debts id (leaf_debt s parent (call_key e.call))
 
 abbrev pub SilentOwes : Type 0
@@ -52,33 +52,33 @@ AimOwes = (s : State) (debts : ℕ → Debt) (id row : ℕ) → TableOk s → De
 
 -- K17
 abbrev pub UnlinkOwes : Type 0
-UnlinkOwes = (s : State) (debts : ℕ → Debt) (id parent : ℕ) (d : Side) (row : ℕ) → TableOk s → DebtOk s debts → MayUnlink s parent d row
+UnlinkOwes = (s : State) (debts : ℕ → Debt) (id parent : ℕ) (d : Side) (row : ℕ) → TableOk s → DebtOk s debts → MayMarkUnlinked s parent d row
     → OwesNone s (debts id) ⊎ Aims s (debts id) row ⊎ Aims s (debts id) parent → IsFree debts id parent
     → Owing (unlinked_marked s parent d row) debts id (aimed s parent (noted s parent (debts id).list))
 
 -- K16
 abbrev pub CopyOwes : Type 0
-CopyOwes = (s : State) (debts : ℕ → Debt) (parent : ℕ) (d : Side) (row copy : ℕ) → TableOk s → DebtOk s debts → MayCopy s parent d row copy → DebtOk (copy_linked s parent d row copy) debts
+CopyOwes = (s : State) (debts : ℕ → Debt) (parent : ℕ) (d : Side) (row copy : ℕ) → TableOk s → DebtOk s debts → MayLinkCopy s parent d row copy → DebtOk (copy_linked s parent d row copy) debts
 
 -- K14
 abbrev pub CutOwes : Type 0
 CutOwes = (s : State) (debts : ℕ → Debt) → DebtOk s debts → ((j : ℕ) → OwesNone s (debts j)) → DebtOk (cut s) debts
 
 abbrev pub ShrinkOwes : Type 0
-ShrinkOwes = (s : State) (debts : ℕ → Debt) (id parent : ℕ) (p : Side) (row : ℕ) (d : Side) (raised key : ℕ) → TableOk s → DebtOk s debts → MayShrink s row → MayOweTurn s debts id parent p row d raised key
+ShrinkOwes = (s : State) (debts : ℕ → Debt) (id parent : ℕ) (p : Side) (row : ℕ) (d : Side) (raised key : ℕ) → TableOk s → DebtOk s debts → MayMarkShrinking s row → MayOweTurn s debts id parent p row d raised key
     → Owing (shrinking_marked s row) debts id (shrink_debt (shrinking_marked s row) row key (debts id))
 
 abbrev pub RaiseOwes : Type 0
-RaiseOwes = (s : State) (debts : ℕ → Debt) (id parent : ℕ) (p : Side) (row : ℕ) (d : Side) (raised : ℕ) → TableOk s → DebtOk s debts → MayRaise s parent p row d raised → MayOweRaise s debts id parent row raised
+RaiseOwes = (s : State) (debts : ℕ → Debt) (id parent : ℕ) (p : Side) (row : ℕ) (d : Side) (raised : ℕ) → TableOk s → DebtOk s debts → MayLinkParent s parent p row d raised → MayOweRaise s debts id parent row raised
     → Owing (parent_linked s parent p row d raised) debts id (raise_debt s parent row raised (debts id))
 
 abbrev pub ClearOwes : Type 0
-ClearOwes = (s : State) (debts : ℕ → Debt) (id row : ℕ) → TableOk s → DebtOk s debts → MayClear s row → Owes s (debts id) row → IsFree debts id row
+ClearOwes = (s : State) (debts : ℕ → Debt) (id row : ℕ) → TableOk s → DebtOk s debts → MayClearShrinking s row → Owes s (debts id) row → IsFree debts id row
     → Owing (shrinking_cleared s row) debts id (clear_debt (shrinking_cleared s row) row (debts id))
 
 -- K3
 abbrev pub OwnSilent : Type 0
-OwnSilent = (s : State) (row k b h v : ℕ) (l : Side → ℕ) → TableOk s → MayOwn s row → IsSilent s (own_stored s row k b h v l)
+OwnSilent = (s : State) (row k b h v : ℕ) (l : Side → ℕ) → TableOk s → MayStoreOwn s row → IsSilent s (own_stored s row k b h v l)
 
 -- K19 and K22 make it, and a step of another pass keeps it
 abbrev pub ShrinkTurns : Type 0

@@ -9,11 +9,11 @@ use Rattle.snap_rule.specs.Debt.Lists.{Aims, aimed, noted, taken}
 use Rattle.snap_rule.specs.Debt.Step.{IsFree, IsSilent}
 use Rattle.snap_rule.specs.Debt.Views.{DebtDoing, DebtHolds, ShrinkAims, Stepping}
 use Rattle.snap_rule.specs.Evolves.{Evolves}
-use Rattle.snap_rule.specs.Kinds.Clones.{MayCopy, copy_linked}
-use Rattle.snap_rule.specs.Kinds.Entries.{MayLeaf, MayStore, leaf_linked, value_stored}
-use Rattle.snap_rule.specs.Kinds.Rotation.{MayClear, MayRaise, MayShrink, parent_linked, shrinking_cleared, shrinking_marked}
-use Rattle.snap_rule.specs.Kinds.Unlinking.{MayUnlink, unlinked_marked}
-use Rattle.snap_rule.specs.Kinds.Words.{MayHeighten, height_stored}
+use Rattle.snap_rule.specs.Kinds.Clones.{MayLinkCopy, copy_linked}
+use Rattle.snap_rule.specs.Kinds.Entries.{MayLinkLeaf, MayStoreValue, leaf_linked, value_stored}
+use Rattle.snap_rule.specs.Kinds.Rotation.{MayClearShrinking, MayLinkParent, MayMarkShrinking, parent_linked, shrinking_cleared, shrinking_marked}
+use Rattle.snap_rule.specs.Kinds.Unlinking.{MayMarkUnlinked, unlinked_marked}
+use Rattle.snap_rule.specs.Kinds.Words.{MayStoreHeight, height_stored}
 use Rattle.snap_rule.specs.Room.{HasRoom}
 use Rattle.snap_rule.specs.State.{State}
 use Rattle.snap_rule.specs.Updates.{changed}
@@ -32,41 +32,41 @@ TurnsKnown = (s : State) (views : List View) (debts : ℕ → Debt) (next rows :
 
 -- K8 as a whole step
 abbrev pub StoreWhole : Type 0
-StoreWhole = (s : State) (views : List View) (id : ℕ) (v w : View) (debts : ℕ → Debt) (next rows row : ℕ) (e : Entry) → Stepping s views id v w debts next rows → MayStore s row e → s.lock row ≡ v.who + 1
+StoreWhole = (s : State) (views : List View) (id : ℕ) (v w : View) (debts : ℕ → Debt) (next rows row : ℕ) (e : Entry) → Stepping s views id v w debts next rows → MayStoreValue s row e → s.lock row ≡ v.who + 1
     → v.doing ≡ Nothing → w.doing ≡ Nothing → (HasRoom s next rows → call_value e.call ≡ None → OwesNone s (debts v.who))
     → DebtHolds (value_stored s row e) (with_seat views id w) (changed debts v.who (stored_debt s row (call_key e.call) (call_value e.call) (debts v.who))) next rows
 
 abbrev pub ShrinkWhole : Type 0
-ShrinkWhole = (s : State) (views : List View) (id : ℕ) (v w : View) (debts : ℕ → Debt) (next rows parent : ℕ) (p : Side) (row : ℕ) (d : Side) (raised key : ℕ) → Stepping s views id v w debts next rows → MayShrink s row
+ShrinkWhole = (s : State) (views : List View) (id : ℕ) (v w : View) (debts : ℕ → Debt) (next rows parent : ℕ) (p : Side) (row : ℕ) (d : Side) (raised key : ℕ) → Stepping s views id v w debts next rows → MayMarkShrinking s row
     → ShrinkAims s (debts v.who) parent p row d raised key next rows → s.lock row ≡ v.who + 1 → w.doing ≡ Shrunk parent p row d raised
     → DebtHolds (shrinking_marked s row) (with_seat views id w) (changed debts v.who (shrink_debt (shrinking_marked s row) row key (debts v.who))) next rows
 
 abbrev pub RaiseWhole : Type 0
-RaiseWhole = (s : State) (views : List View) (id : ℕ) (v w : View) (debts : ℕ → Debt) (next rows parent : ℕ) (p : Side) (row : ℕ) (d : Side) (raised : ℕ) → Stepping s views id v w debts next rows → MayRaise s parent p row d raised
+RaiseWhole = (s : State) (views : List View) (id : ℕ) (v w : View) (debts : ℕ → Debt) (next rows parent : ℕ) (p : Side) (row : ℕ) (d : Side) (raised : ℕ) → Stepping s views id v w debts next rows → MayLinkParent s parent p row d raised
     → v.doing ≡ Lifted parent p row d raised → w.doing ≡ Turned row → s.lock parent ≡ v.who + 1
     → DebtHolds (parent_linked s parent p row d raised) (with_seat views id w) (changed debts v.who (raise_debt s parent row raised (debts v.who))) next rows
 
 abbrev pub ClearWhole : Type 0
-ClearWhole = (s : State) (views : List View) (id : ℕ) (v w : View) (debts : ℕ → Debt) (next rows row : ℕ) → Stepping s views id v w debts next rows → MayClear s row → v.doing ≡ Turned row → w.doing ≡ Nothing
+ClearWhole = (s : State) (views : List View) (id : ℕ) (v w : View) (debts : ℕ → Debt) (next rows row : ℕ) → Stepping s views id v w debts next rows → MayClearShrinking s row → v.doing ≡ Turned row → w.doing ≡ Nothing
     → DebtHolds (shrinking_cleared s row) (with_seat views id w) (changed debts v.who (clear_debt (shrinking_cleared s row) row (debts v.who))) next rows
 
 -- K7, K16, K17, K24 and the silent kinds as whole steps
 abbrev pub LeafWhole : Type 0
-LeafWhole = (s : State) (views : List View) (id : ℕ) (v w : View) (debts : ℕ → Debt) (next rows parent : ℕ) (d : Side) (row : ℕ) (e : Entry) → Stepping s views id v w debts next rows → MayLeaf s parent d row e → call_value e.call ≢ None
+LeafWhole = (s : State) (views : List View) (id : ℕ) (v w : View) (debts : ℕ → Debt) (next rows parent : ℕ) (d : Side) (row : ℕ) (e : Entry) → Stepping s views id v w debts next rows → MayLinkLeaf s parent d row e
     → s.lock parent ≡ v.who + 1 → w.doing ≡ Nothing → (HasRoom s next rows → OwesNone s (debts v.who))
     → DebtHolds (leaf_linked s parent d row e) (with_seat views id w) (changed debts v.who (leaf_debt s parent (call_key e.call))) next rows
 
 abbrev pub CopyWhole : Type 0
-CopyWhole = (s : State) (views : List View) (id : ℕ) (v w : View) (debts : ℕ → Debt) (next rows parent : ℕ) (d : Side) (row copy : ℕ) → Stepping s views id v w debts next rows → MayCopy s parent d row copy
+CopyWhole = (s : State) (views : List View) (id : ℕ) (v w : View) (debts : ℕ → Debt) (next rows parent : ℕ) (d : Side) (row copy : ℕ) → Stepping s views id v w debts next rows → MayLinkCopy s parent d row copy
     → s.lock parent ≡ v.who + 1 → v.doing ≡ Nothing → w.doing ≡ Nothing → DebtHolds (copy_linked s parent d row copy) (with_seat views id w) debts next rows
 
 abbrev pub UnlinkWhole : Type 0
-UnlinkWhole = (s : State) (views : List View) (id : ℕ) (v w : View) (debts : ℕ → Debt) (next rows parent : ℕ) (d : Side) (row only : ℕ) → Stepping s views id v w debts next rows → MayUnlink s parent d row
+UnlinkWhole = (s : State) (views : List View) (id : ℕ) (v w : View) (debts : ℕ → Debt) (next rows parent : ℕ) (d : Side) (row only : ℕ) → Stepping s views id v w debts next rows → MayMarkUnlinked s parent d row
     → s.lock parent ≡ v.who + 1 → s.lock row ≡ v.who + 1 → w.doing ≡ Unlinked parent d row only → (HasRoom s next rows → OwesNone s (debts v.who) ⊎ Aims s (debts v.who) row ⊎ Aims s (debts v.who) parent)
     → DebtHolds (unlinked_marked s parent d row) (with_seat views id w) (changed debts v.who (aimed s parent (noted s parent (debts v.who).list))) next rows
 
 abbrev pub HeightWhole : Type 0
-HeightWhole = (s : State) (views : List View) (id : ℕ) (v w : View) (debts : ℕ → Debt) (next rows parent : ℕ) (d : Side) (row h : ℕ) → Stepping s views id v w debts next rows → MayHeighten s row
+HeightWhole = (s : State) (views : List View) (id : ℕ) (v w : View) (debts : ℕ → Debt) (next rows parent : ℕ) (d : Side) (row h : ℕ) → Stepping s views id v w debts next rows → MayStoreHeight s row
     → s.lock parent ≡ v.who + 1 → v.doing ≡ Nothing → w.doing ≡ Nothing → (HasRoom s next rows → IsFree debts v.who parent → MayOweHeight s debts v.who parent d row h)
     → DebtHolds (height_stored s row h) (with_seat views id w) (changed debts v.who (height_debt s parent row (debts v.who))) next rows
 

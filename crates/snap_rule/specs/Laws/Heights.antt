@@ -5,7 +5,7 @@ use Rattle.snap_stamp.specs.declared.side.Side.{Side}
 use Rattle.snap_rule.specs.Doing.{Apart}
 use Rattle.snap_rule.specs.Heights.{KeepsHeights, Loaded, LoadedOk, ShowsSettled}
 use Rattle.snap_rule.specs.Kinds.Entries.{value_stored}
-use Rattle.snap_rule.specs.Kinds.Words.{MayOwn, height_stored, own_stored}
+use Rattle.snap_rule.specs.Kinds.Words.{MayStoreOwn, height_stored, own_stored}
 use Rattle.snap_rule.specs.Rule.{IsParent, TableOk}
 use Rattle.snap_rule.specs.Settled.{IsSettled, child_height}
 use Rattle.snap_rule.specs.State.{State}
@@ -24,7 +24,7 @@ abbrev pub HeldWords : Type 0
 HeldWords =
     ((s : State) (row : ℕ) (e : Entry) (n : ℕ) → n ≢ row → ((value_stored s row e).value n ≡ s.value n) × ((value_stored s row e).height n ≡ s.height n) × KeepsHeights s (value_stored s row e) n)
     × ((s : State) (row h n : ℕ) → n ≢ row → ((height_stored s row h).value n ≡ s.value n) × ((height_stored s row h).height n ≡ s.height n))
-    × ((s : State) (row k b h v : ℕ) (l : Side → ℕ) (n : ℕ) → TableOk s → MayOwn s row → Stands n s.tree → ((own_stored s row k b h v l).value n ≡ s.value n) × ((own_stored s row k b h v l).height n ≡ s.height n) × KeepsHeights s (own_stored s row k b h v l) n)
+    × ((s : State) (row k b h v : ℕ) (l : Side → ℕ) (n : ℕ) → TableOk s → MayStoreOwn s row → Stands n s.tree → ((own_stored s row k b h v l).value n ≡ s.value n) × ((own_stored s row k b h v l).height n ≡ s.height n) × KeepsHeights s (own_stored s row k b h v l) n)
 
 abbrev pub LoadedSettled : Type 0
 LoadedSettled = (s : State) (n : ℕ) (x : Loaded) → LoadedOk s n x → ShowsSettled x → IsSettled s n

@@ -3,11 +3,11 @@ use Rattle.std.specs.Prelude.{ℕ, ◌≢◌}
 use Rattle.snap_model.specs.declared.call.Entry.{Entry}
 use Rattle.snap_stamp.specs.declared.side.Side.{Side}
 use Rattle.snap_rule.specs.Evolves.{Evolves}
-use Rattle.snap_rule.specs.Kinds.Clones.{MayCopy, MayCut, copy_linked, cut}
-use Rattle.snap_rule.specs.Kinds.Entries.{MayConfirm, MayLeaf, MayStore, absent_confirmed, leaf_linked, value_stored}
-use Rattle.snap_rule.specs.Kinds.Rotation.{MayClear, MayLift, MayLower, MayRaise, MayShrink, lowered_linked, parent_linked, raised_linked, shrinking_cleared, shrinking_marked}
-use Rattle.snap_rule.specs.Kinds.Unlinking.{MaySplice, MayUnlink, spliced, unlinked_marked}
-use Rattle.snap_rule.specs.Kinds.Words.{MayCount, MayHeighten, MayOwn, header_stored, height_stored, lock_stored, own_stored}
+use Rattle.snap_rule.specs.Kinds.Clones.{MayLinkCopy, MayCut, copy_linked, cut}
+use Rattle.snap_rule.specs.Kinds.Entries.{MayConfirmAbsent, MayLinkLeaf, MayStoreValue, absent_confirmed, leaf_linked, value_stored}
+use Rattle.snap_rule.specs.Kinds.Rotation.{MayClearShrinking, MayLinkRaised, MayLinkLowered, MayLinkParent, MayMarkShrinking, lowered_linked, parent_linked, raised_linked, shrinking_cleared, shrinking_marked}
+use Rattle.snap_rule.specs.Kinds.Unlinking.{MaySplice, MayMarkUnlinked, spliced, unlinked_marked}
+use Rattle.snap_rule.specs.Kinds.Words.{MayCount, MayStoreHeight, MayStoreOwn, header_stored, height_stored, lock_stored, own_stored}
 use Rattle.snap_rule.specs.Rule.{NoneWrites, TableOk, opened}
 use Rattle.snap_rule.specs.State.{State}
 
@@ -19,7 +19,7 @@ abbrev pub Opens : Type 0
 Opens = TableOk opened × NoneWrites opened
 
 abbrev pub OwnKeeps : Type 0
-OwnKeeps = (s : State) (row k b h v : ℕ) (l : Side → ℕ) → MayOwn s row → Keeps s (own_stored s row k b h v l)
+OwnKeeps = (s : State) (row k b h v : ℕ) (l : Side → ℕ) → MayStoreOwn s row → Keeps s (own_stored s row k b h v l)
 
 abbrev pub LockKeeps : Type 0
 LockKeeps = (s : State) (row x : ℕ) → s.writers ≢ 0 → Keeps s (lock_stored s row x)
@@ -28,40 +28,40 @@ abbrev pub HeaderKeeps : Type 0
 HeaderKeeps = (s : State) (g a w : ℕ) → MayCount s g a w → Keeps s (header_stored s g a w)
 
 abbrev pub LeafKeeps : Type 0
-LeafKeeps = (s : State) (parent : ℕ) (d : Side) (row : ℕ) (e : Entry) → MayLeaf s parent d row e → Keeps s (leaf_linked s parent d row e)
+LeafKeeps = (s : State) (parent : ℕ) (d : Side) (row : ℕ) (e : Entry) → MayLinkLeaf s parent d row e → Keeps s (leaf_linked s parent d row e)
 
 abbrev pub StoreKeeps : Type 0
-StoreKeeps = (s : State) (row : ℕ) (e : Entry) → MayStore s row e → Keeps s (value_stored s row e)
+StoreKeeps = (s : State) (row : ℕ) (e : Entry) → MayStoreValue s row e → Keeps s (value_stored s row e)
 
 abbrev pub CutKeeps : Type 0
 CutKeeps = (s : State) → MayCut s → Keeps s (cut s)
 
 abbrev pub CopyKeeps : Type 0
-CopyKeeps = (s : State) (parent : ℕ) (d : Side) (row copy : ℕ) → MayCopy s parent d row copy → Keeps s (copy_linked s parent d row copy)
+CopyKeeps = (s : State) (parent : ℕ) (d : Side) (row copy : ℕ) → MayLinkCopy s parent d row copy → Keeps s (copy_linked s parent d row copy)
 
 abbrev pub UnlinkKeeps : Type 0
-UnlinkKeeps = (s : State) (parent : ℕ) (d : Side) (row : ℕ) → MayUnlink s parent d row → Keeps s (unlinked_marked s parent d row)
+UnlinkKeeps = (s : State) (parent : ℕ) (d : Side) (row : ℕ) → MayMarkUnlinked s parent d row → Keeps s (unlinked_marked s parent d row)
 
 abbrev pub SpliceKeeps : Type 0
 SpliceKeeps = (s : State) (parent : ℕ) (d : Side) (row : ℕ) → MaySplice s parent d row → Keeps s (spliced s parent d)
 
 abbrev pub ShrinkKeeps : Type 0
-ShrinkKeeps = (s : State) (row : ℕ) → MayShrink s row → Keeps s (shrinking_marked s row)
+ShrinkKeeps = (s : State) (row : ℕ) → MayMarkShrinking s row → Keeps s (shrinking_marked s row)
 
 abbrev pub LowerKeeps : Type 0
-LowerKeeps = (s : State) (row : ℕ) (d : Side) (raised : ℕ) → MayLower s row d raised → Keeps s (lowered_linked s row d raised)
+LowerKeeps = (s : State) (row : ℕ) (d : Side) (raised : ℕ) → MayLinkLowered s row d raised → Keeps s (lowered_linked s row d raised)
 
 abbrev pub LiftKeeps : Type 0
-LiftKeeps = (s : State) (row : ℕ) (d : Side) (raised : ℕ) → MayLift s row d raised → Keeps s (raised_linked s row d raised)
+LiftKeeps = (s : State) (row : ℕ) (d : Side) (raised : ℕ) → MayLinkRaised s row d raised → Keeps s (raised_linked s row d raised)
 
 abbrev pub RaiseKeeps : Type 0
-RaiseKeeps = (s : State) (parent : ℕ) (p : Side) (row : ℕ) (d : Side) (raised : ℕ) → MayRaise s parent p row d raised → Keeps s (parent_linked s parent p row d raised)
+RaiseKeeps = (s : State) (parent : ℕ) (p : Side) (row : ℕ) (d : Side) (raised : ℕ) → MayLinkParent s parent p row d raised → Keeps s (parent_linked s parent p row d raised)
 
 abbrev pub ClearKeeps : Type 0
-ClearKeeps = (s : State) (row : ℕ) → MayClear s row → Keeps s (shrinking_cleared s row)
+ClearKeeps = (s : State) (row : ℕ) → MayClearShrinking s row → Keeps s (shrinking_cleared s row)
 
 abbrev pub HeightKeeps : Type 0
-HeightKeeps = (s : State) (row x : ℕ) → MayHeighten s row → Keeps s (height_stored s row x)
+HeightKeeps = (s : State) (row x : ℕ) → MayStoreHeight s row → Keeps s (height_stored s row x)
 
 abbrev pub AbsentKeeps : Type 0
-AbsentKeeps = (s : State) (e : Entry) → MayConfirm s e → Keeps s (absent_confirmed s e)
+AbsentKeeps = (s : State) (e : Entry) → MayConfirmAbsent s e → Keeps s (absent_confirmed s e)

@@ -4,9 +4,9 @@ use Rattle.snap_stamp.specs.Stamps.{IsUnmarked}
 use Rattle.snap_stamp.specs.declared.layout.Field.{Field}
 use Rattle.snap_stamp.specs.declared.side.Side.TheVariants.{Left, Right}
 use Rattle.snap_rule.specs.Evolves.{Evolves}
-use Rattle.snap_rule.specs.Quiescence.{CalmOk, HasLoad, IsCalm, QuietOk, word}
+use Rattle.snap_rule.specs.Quiescence.{CalmOk, IsCalm, QuietOk, word}
 use Rattle.snap_rule.specs.Rule.{NoneWrites, TableOk}
-use Rattle.snap_rule.specs.State.{State, WasLinked}
+use Rattle.snap_rule.specs.State.{In, State, WasLinked}
 use Rattle.snap_rule.specs.declared.quiescence.Load.{Load}
 
 abbrev pub QuietKept : Type 0
@@ -32,5 +32,5 @@ CalmGoesOn = (s : State) (ended low high c : ℕ) → c ≢ 0 → CalmOk s ended
 -- trouble in a call of `try_get` tells that a write was entered since it loaded `left`: at a load that differs from an earlier one of the call, and at a row with a mark or with a key outside the nearest passed keys
 abbrev pub TroubleTells : Type 0
 TroubleTells = (s : State) (ended : ℕ) (l : List Load) → QuietOk s ended l
-    → ((x : Load) → HasLoad x l → word s x.row x.field ≢ x.found → ended < s.gate / 2)
+    → ((x : Load) → In x l → word s x.row x.field ≢ x.found → ended < s.gate / 2)
     × ((low high c : ℕ) → CalmOk s ended low high c → c ≢ 0 → ¬ IsUnmarked (s.stamp c) ⊎ (s.key c < low) ⊎ (high ≤ s.key c) → ended < s.gate / 2)
