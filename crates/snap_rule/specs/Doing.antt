@@ -1,4 +1,5 @@
--- A change in progress: what its pass knows after each of its steps, and what a step of another pass leaves of that.
+-- A change in progress: what its pass knows after each of its steps, which is what the next one needs, and what a step of
+-- another pass leaves of that.
 use Rattle.std.specs.Prelude.{ℕ, ◌≡◌, ◌≢◌, ◌⊎◌}
 use Rattle.snap_stamp.specs.Sides.{other}
 use Rattle.snap_stamp.specs.Stamps.{IsLowering}
@@ -9,7 +10,7 @@ use Rattle.snap_rule.specs.State.Change.{lowering, plain, raising, unlinking}
 use Rattle.snap_rule.specs.declared.change.Doing.{Doing}
 use Rattle.snap_rule.specs.declared.change.Doing.TheVariants.{Lifted, Lowered, Nothing, Shrunk, Turned, Unlinked}
 
--- the rows of the change, which its pass holds
+-- the rows of a change, which its pass holds
 abbrev pub Concerns : Doing → ℕ → Type 0
 Concerns Nothing n = ⊥
 Concerns (Unlinked parent d row only) n = n ≡ parent
@@ -18,7 +19,7 @@ Concerns (Lowered parent p row d raised) n = (n ≡ parent) ⊎ (n ≡ row) ⊎ 
 Concerns (Lifted parent p row d raised) n = (n ≡ parent) ⊎ (n ≡ row) ⊎ (n ≡ raised)
 Concerns (Turned row) n = n ≡ row
 
--- a row, its parent and its child that is to be raised
+-- a rotation up to its fourth step: the parent, the row, and its child on side d that is to be raised
 pub record IsTurn (s : State) (parent : ℕ) (p : Side) (row : ℕ) (d : Side) (raised : ℕ) : Type 0 where
   pub parent_live : IsParent s parent p
   pub live : IsLive s row
@@ -29,6 +30,7 @@ pub record IsTurn (s : State) (parent : ℕ) (p : Side) (row : ℕ) (d : Side) (
   pub row_plain : s.pending row (other d) ≡ plain
   pub apart : (raised ≢ row) × (parent ≢ row) × (parent ≢ raised)
 
+-- no link is raising the row
 abbrev pub NotNamed : State → ℕ → Type 0
 NotNamed s row = (n : ℕ) (e : Side) → s.pending n e ≢ raising row
 
@@ -69,6 +71,7 @@ pub record HasTurned (s : State) (row : ℕ) : Type 0 where
   pub no_change : (e : Side) → s.pending row e ≡ plain
   pub not_named : NotNamed s row
 
+-- what is known of a change
 abbrev pub DoingOk : State → Doing → Type 0
 DoingOk s Nothing = Unit {0}
 DoingOk s (Unlinked parent d row only) = HasUnlinked s parent d row only
@@ -77,7 +80,7 @@ DoingOk s (Lowered parent p row d raised) = HasLowered s parent p row d raised
 DoingOk s (Lifted parent p row d raised) = HasLifted s parent p row d raised
 DoingOk s (Turned row) = HasTurned s row
 
--- a step leaves a row alone
+-- a step leaves a row alone: its stamp and its links, in memory and in the tree, no new link is raising it, and it stays live
 pub record Apart (s s' : State) (n : ℕ) : Type 0 where
   pub stamp : s'.stamp n ≡ s.stamp n
   pub link : (d : Side) → s'.link n d ≡ s.link n d

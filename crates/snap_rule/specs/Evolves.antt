@@ -1,5 +1,5 @@
--- How a table changes from one moment to any later one. All that readers of other passes rest on is in it: what only
--- grows, what stays, that stamps rise as numbers, and what is known where a stamp, a mark or a value changes.
+-- How a table changes from one moment to any later one, as far as it matters to the readers of other passes. Every kind
+-- of step evolves the table; what is said of a reader is kept by all that evolves, and so proved once and not for each kind.
 use Rattle.std.specs.Prelude.{None, ℕ, ◌/◌, ◌≡◌, ◌≢◌, ◌≤◌}
 use Rattle.snap_model.specs.History.{Begins, told}
 use Rattle.snap_stamp.specs.Stamps.{IsUnlinked, IsUnmarked}
@@ -18,24 +18,25 @@ pub record SameRow (s s' : State) (n : ℕ) : Type 0 where
   pub link : (d : Side) → s'.link n d ≡ s.link n d
 
 pub record Evolves (s s' : State) : Type 0 where
-  -- 1. what only grows, and what stays
+  -- what only grows, and what stays
   pub history : Begins s.history s'.history
   pub linked : (n : ℕ) → In n s.linked → In n s'.linked
   pub epoch : s.epoch ≤ s'.epoch
   pub key : (n : ℕ) → In n s.linked → s'.key n ≡ s.key n
   pub birth : (n : ℕ) → In n s.linked → s'.birth n ≡ s.birth n
-  -- 2. stamps grow as numbers
+  -- a stamp only grows as a number, so one that a row has left it never has again
   pub stamp : (n : ℕ) → WasLinked s n → s.stamp n ≤ s'.stamp n
-  -- 3. a place of the tree stays one while its unmarked stamp stays
+  -- an unshared row on the way to k is a position for k as long as it keeps its stamp, if that has no mark
   pub place : (n k : ℕ) → OnWay s.tree k n → ¬ IsShared s n → IsUnmarked (s.stamp n) → s'.stamp n ≡ s.stamp n → IsPlaced s' s'.history n k
-  -- 4. shared rows stay as they are
+  -- a shared row keeps its words
   pub shared : (n : ℕ) → In n s.linked → IsShared s n → SameRow s s' n
-  -- 5. a row that comes to be unlinked has no value, and its key is absent
+  -- a row that comes to be unlinked has no value, its key is absent then, and its value word stays
   pub unlinked : (n : ℕ) → In n s.linked → ¬ IsUnlinked (s.stamp n) → IsUnlinked (s'.stamp n) → (s'.value n ≡ 0) × (told s'.history (s.key n) ≡ None)
   pub gone : (n : ℕ) → In n s.linked → IsUnlinked (s.stamp n) → s'.value n ≡ s.value n
-  -- 6. a value that changes is what the map then has
+  -- a value word that changes tells what the map then has
   pub value : (n : ℕ) → In n s.linked → s'.value n ≢ s.value n → s'.value n ≡ value_word (told s'.history (s.key n))
-  -- 7. where no pass is in a write, no row changes
+  -- the number of writes entered never falls; where it stays and no pass is in a write, none comes to be in one, and
+  -- where no pass is in a write the rows keep all their words
   pub entered : s.gate / 2 ≤ s'.gate / 2
   pub none_enters : s'.gate / 2 ≡ s.gate / 2 → s.writers ≡ 0 → s'.writers ≡ 0
   pub quiet : s.writers ≡ 0 → (n : ℕ) → WasLinked s n → SameRow s s' n × (s'.lock n ≡ s.lock n)

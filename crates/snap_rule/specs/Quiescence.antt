@@ -1,7 +1,8 @@
--- Quiescence: what a call of `try_get` knows while no write was entered since it began. Each word that it loaded is
--- as it was, and the tree below the link at which it stands is ordered and has no marks.
+-- Quiescence: what a call of `try_get` knows as long as no write was entered since the one that it counted last. No pass
+-- is in a write, each word that it loaded is still as it was, and the tree below the link at which it stands is ordered
+-- and has no marks. So trouble on its way tells that a write was entered.
 use Rattle.std.specs.List.{AllByRecursion as Every}
-use Rattle.std.specs.Prelude.{List, [], ℕ, ◌/◌, ◌∷◌, ◌≡◌, ◌≤◌, ◌⊎◌}
+use Rattle.std.specs.Prelude.{List, ℕ, ◌/◌, ◌≡◌, ◌≤◌}
 use Rattle.snap_stamp.specs.Stamps.{IsUnmarked}
 use Rattle.snap_stamp.specs.declared.layout.Field.{Field}
 use Rattle.snap_stamp.specs.declared.layout.Field.TheVariants.{Birth, Height, Key, Left, Lock, Right, Stamp, Value}
@@ -21,15 +22,16 @@ word s n Left = s.link n sides.Left
 word s n Right = s.link n sides.Right
 word s n Value = s.value n
 
+-- the word is as it was loaded
 abbrev pub IsSo : State → Load → Type 0
 IsSo s l = WasLinked s l.row × (word s l.row l.field ≡ l.found)
 
--- a call of `try_get` that loaded this number of ended writes, and then these words
+-- a call that loaded `left` as this number of ended writes, and then these words
 pub record QuietOk (s : State) (ended : ℕ) (loads : List Load) : Type 0 where
   pub few : ended ≤ s.gate / 2
   pub quiet : s.gate / 2 ≡ ended → (s.writers ≡ 0) × Every (IsSo s) loads
 
--- the words below a link are an ordered tree of rows without marks
+-- from row c on the words are an ordered tree within these bounds, of rows without marks
 pub record IsCalm (s : State) (low high c : ℕ) : Type 0 where
   pub part : Tree
   pub top : root part ≡ c
@@ -37,6 +39,6 @@ pub record IsCalm (s : State) (low high c : ℕ) : Type 0 where
   pub ordered : Between low high part
   pub rows : EachRow (λ r. In r s.linked × IsUnmarked (s.stamp r)) part
 
--- so it is where no write was entered since
+-- so it is as long as no write was entered since
 abbrev pub CalmOk : State → (ended low high c : ℕ) → Type 0
 CalmOk s ended low high c = s.gate / 2 ≡ ended → IsCalm s low high c

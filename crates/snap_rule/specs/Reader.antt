@@ -1,4 +1,5 @@
--- A reader on its way to a key, by the points between its loads.
+-- A reader on its way to a key, between any two of its loads. It had seen a part of the history when it began, and each
+-- of its answers stands at some moment since.
 use Rattle.std.specs.Prelude.{List, ℕ, ◌≡◌}
 use Rattle.snap_model.specs.History.{Begins}
 use Rattle.snap_model.specs.declared.call.Entry.{Entry}
@@ -9,7 +10,7 @@ use Rattle.snap_rule.specs.State.{In, State}
 use Rattle.snap_rule.specs.declared.reader.Point.{Point}
 use Rattle.snap_rule.specs.declared.reader.Point.TheVariants.{Confirmed, ConfirmedNone, Linked, Matched, NoLink, Relinked, Stamped, Standing}
 
--- what the rule says of each stage
+-- what is known at each point. The row is n with stamp v, the child c with stamp w
 abbrev pub StageOk : State → List Entry → ℕ → Point → Type 0
 StageOk s seen k (Standing n v d) = IsStanding s seen k n v d
 StageOk s seen k (NoLink n v d) = IsStanding s seen k n v d × (s.stamp n ≡ v → WasAbsent s seen k)
@@ -20,6 +21,6 @@ StageOk s seen k (Confirmed c w) = IsChild s c w × IsCandidate s seen k c w
 StageOk s seen k ConfirmedNone = WasAbsent s seen k
 StageOk s seen k (Matched c) = In c s.linked × (s.key c ≡ k) × HasTold s seen c k
 
-pub record ReaderOk (s : State) (seen : List Entry) (k : ℕ) (stage : Point) : Type 0 where
+pub record ReaderOk (s : State) (seen : List Entry) (k : ℕ) (point : Point) : Type 0 where
   pub begins : Begins seen s.history
-  pub at_stage : StageOk s seen k stage
+  pub at_stage : StageOk s seen k point

@@ -1,5 +1,5 @@
--- A search tree whose nodes have row numbers, with what is read off it: the value at a key, the rows on the way to
--- a key, and the order of its keys. It is a value of its own and reads no memory.
+-- A search tree whose nodes have row numbers, and what is read off it: the value at a key, the rows on the way to a
+-- key, the order of its keys. A tree is a value of its own and reads no memory. A node without a value is a routing node.
 use Rattle.std.specs.Prelude.{None, Option, Some, if◌then◌else◌, nat_lt, suc, zero, ℕ, ◌+◌, ◌<◌, ◌==◌, ◌≡◌, ◌≤◌, ◌⊎◌}
 
 pub record Node : Type 0 where
@@ -27,27 +27,26 @@ abbrev pub Stands : ℕ → Tree → Type 0
 Stands m empty = ⊥
 Stands m (node n a b) = (m ≡ n.row) ⊎ Stands m a ⊎ Stands m b
 
--- the search for k passes this row or ends there: k is in the row's range
+-- the search for k passes this row or ends at it: k lies in the row's range
 abbrev pub OnWay : Tree → ℕ → ℕ → Type 0
 OnWay empty k m = ⊥
 OnWay (node n a b) k m = (m ≡ n.row) ⊎ (k < n.key) × OnWay a k m ⊎ (n.key < k) × OnWay b k m
-
--- how a row stores an optional value
-abbrev pub value_word : Option ℕ → ℕ
-value_word None = 0
-value_word (Some v) = suc v
-
--- each row of the tree has the property
-abbrev pub EachRow : (ℕ → Type 0) → Tree → Type 0
-EachRow P empty = Unit {0}
-EachRow P (node n a b) = P n.row × EachRow P a × EachRow P b
 
 -- every key is at least low and below high, and the keys rise from left to right
 abbrev pub Between : ℕ → ℕ → Tree → Type 0
 Between low high empty = Unit {0}
 Between low high (node n a b) = (low ≤ n.key) × (n.key < high) × Between low n.key a × Between (n.key + 1) high b
 
--- the answer that a value word is
+-- each row of the tree has the property
+abbrev pub EachRow : (ℕ → Type 0) → Tree → Type 0
+EachRow P empty = Unit {0}
+EachRow P (node n a b) = P n.row × EachRow P a × EachRow P b
+
+-- the word that stores an optional value, and back
+abbrev pub value_word : Option ℕ → ℕ
+value_word None = 0
+value_word (Some v) = suc v
+
 abbrev pub value_of : ℕ → Option ℕ
 value_of zero = None
 value_of (suc v) = Some v

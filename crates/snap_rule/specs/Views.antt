@@ -1,4 +1,5 @@
--- What passes know of the table, each for itself, and what the step of one leaves to the others.
+-- What the passes know, each for itself, and what the step of one leaves to the others. A view is what one pass knows: the
+-- history that it has seen, its way to a key, its call of `try_get`, and its change.
 use Rattle.std.specs.Prelude.{List, None, Option, Some, [], suc, zero, ℕ, ◌+◌, ◌∷◌, ◌≡◌, ◌≢◌}
 use Rattle.snap_model.specs.History.{Begins}
 use Rattle.snap_model.specs.declared.call.Entry.{Entry}
@@ -13,7 +14,6 @@ use Rattle.snap_rule.specs.declared.quiescence.Trying.TheVariants.{Idle, Since}
 use Rattle.snap_rule.specs.declared.reader.Reading.{Reading}
 use Rattle.snap_rule.specs.declared.reader.Reading.TheVariants.{On, Resting}
 
--- whether it is in a call of `try_get`: what it loaded, and the bounds of what is below the link at which it stands
 pub record View : Type 0 where
   pub who : ℕ
   pub seen : List Entry
@@ -36,7 +36,7 @@ pub record ViewOk (s : State) (v : View) : Type 0 where
   pub doing : DoingOk s v.doing
   pub held : (n : ℕ) → Concerns v.doing n → s.lock n ≡ v.who + 1
 
--- the views by their seats
+-- the view at a seat, and another view put there
 abbrev pub at_seat : List View → ℕ → Option View
 at_seat [] j = None
 at_seat (v ∷ vs) zero = Some v
@@ -47,11 +47,12 @@ with_seat [] j w = []
 with_seat (v ∷ vs) zero w = w ∷ vs
 with_seat (v ∷ vs) (suc j) w = v ∷ with_seat vs j w
 
+-- the rule holds: the parts that speak of no pass, each view, and no two passes have one number
 pub record Holds (s : State) (views : List View) : Type 0 where
   pub table : TableOk s
   pub each : (j : ℕ) (u : View) → at_seat views j ≡ Some u → ViewOk s u
   pub alone : (i j : ℕ) (u v : View) → at_seat views i ≡ Some u → at_seat views j ≡ Some v → u.who ≡ v.who → i ≡ j
 
--- the step of a pass leaves each row alone that another pass holds
+-- the step of pass `who` leaves each row alone that another pass holds, and its lock
 abbrev pub LeavesOthers : State → State → ℕ → Type 0
 LeavesOthers s s' who = (n : ℕ) → WasLinked s n → s.lock n ≢ 0 → s.lock n ≢ who + 1 → Apart s s' n × (s'.lock n ≡ s.lock n)

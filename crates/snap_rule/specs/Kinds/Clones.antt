@@ -1,4 +1,4 @@
--- The cut, which shares every linked row, and the lazy copy that is linked in a shared row's place.
+-- Clones: the cut, which begins an epoch and thereby shares every row that was linked, and the lazy copy of a shared row.
 use Rattle.std.specs.Prelude.{ℕ, ◌+◌, ◌<◌, ◌∷◌, ◌≡◌, ◌≢◌}
 use Rattle.snap_stamp.specs.declared.side.Side.{Side}
 use Rattle.snap_rule.specs.Rule.{IsParent}
@@ -7,7 +7,7 @@ use Rattle.snap_rule.specs.State.Change.{plain}
 use Rattle.snap_rule.specs.TreeChanges.{renamed}
 use Rattle.snap_rule.specs.Updates.{changed, relink}
 
--- the cut of a clone
+-- `cut`
 abbrev pub cut : State → State
 cut s = record s { epoch = s.epoch + 1 }
 
@@ -15,16 +15,24 @@ pub record MayCut (s : State) : Type 0 where
   pub none_writes : s.writers ≡ 0
   pub no_change : (n : ℕ) (d : Side) → s.pending n d ≡ plain
 
--- a copy is linked in the place of a shared row
+-- `link_copy`: a fresh row, filled with the words of a shared child, takes its place below the parent
 abbrev pub copy_linked : State → ℕ → Side → ℕ → ℕ → State
-copy_linked s parent d row copy = record s { link = relink s.link parent d copy; links = relink (changed s.links copy (s.link copy)) parent d copy; tree = renamed row copy s.tree; linked = copy ∷ s.linked; replaced = row ∷ s.replaced }
+copy_linked s parent d row copy = record s {
+  link = relink s.link parent d copy;
+  links = relink (changed s.links copy (s.link copy)) parent d copy;
+  tree = renamed row copy s.tree;
+  linked = copy ∷ s.linked;
+  replaced = row ∷ s.replaced;
+}
 
 pub record MayLinkCopy (s : State) (parent : ℕ) (d : Side) (row copy : ℕ) : Type 0 where
   pub writing : s.writers ≢ 0
+  -- the shared child
   pub parent_live : IsParent s parent d
   pub shared : IsShared s row
   pub child : s.link parent d ≡ row
   pub no_change : s.pending parent d ≡ plain
+  -- the copy
   pub is_row : 0 < copy
   pub fresh : ¬ In copy s.linked
   pub key : s.key copy ≡ s.key row

@@ -1,5 +1,5 @@
--- The kinds that add an entry to the history: a leaf is linked, a value is stored, a removal finds its key absent.
-use Rattle.std.specs.Prelude.{None, [], ℕ, ◌++◌, ◌+◌, ◌<◌, ◌^◌, ◌∷◌, ◌≡◌, ◌≢◌, ◌⊎◌}
+-- Kinds that add an entry to the history: a leaf is linked, a value is stored, a removal finds that its key is absent.
+use Rattle.std.specs.Prelude.{None, [], ℕ, ◌++◌, ◌<◌, ◌^◌, ◌∷◌, ◌≡◌, ◌≢◌, ◌⊎◌}
 use Rattle.snap_model.specs.History.{call_key, call_value}
 use Rattle.snap_model.specs.declared.call.Entry.{Entry}
 use Rattle.snap_stamp.specs.Sides.{Toward}
@@ -11,15 +11,7 @@ use Rattle.snap_rule.specs.Tree.{OnWay, find, value_word}
 use Rattle.snap_rule.specs.TreeChanges.{grown, leaf_of, with_value}
 use Rattle.snap_rule.specs.Updates.{changed, relink}
 
--- a value is stored, with its entry
-abbrev pub value_stored : State → ℕ → Entry → State
-value_stored s row e = record s { value = changed s.value row (value_word (call_value e.call)); history = s.history ++ e ∷ []; tree = with_value row (call_value e.call) s.tree }
-
-pub record MayStoreValue (s : State) (row : ℕ) (e : Entry) : Type 0 where
-  pub writing : s.writers ≢ 0
-  pub live : IsLive s row
-  pub key : s.key row ≡ call_key e.call
-
+-- `link_leaf`: a fresh row, filled for the call, becomes a leaf below the parent
 abbrev pub leaf_linked : State → ℕ → Side → ℕ → Entry → State
 leaf_linked s parent d row e = record s {
   link = relink s.link parent d row;
@@ -31,12 +23,15 @@ leaf_linked s parent d row e = record s {
 
 pub record MayLinkLeaf (s : State) (parent : ℕ) (d : Side) (row : ℕ) (e : Entry) : Type 0 where
   pub writing : s.writers ≢ 0
+  -- the place
   pub parent_live : IsParent s parent d
   pub no_child : s.link parent d ≡ 0
   pub no_change : s.pending parent d ≡ plain
   pub place : (parent ≡ 0) ⊎ OnWay s.tree (call_key e.call) parent × Toward d (call_key e.call) (s.key parent)
+  -- the call
   pub is_put : call_value e.call ≢ None
   pub small : call_key e.call < 2 ^ 64
+  -- the row
   pub is_row : 0 < row
   pub fresh : ¬ In row s.linked
   pub key : s.key row ≡ call_key e.call
@@ -46,7 +41,20 @@ pub record MayLinkLeaf (s : State) (parent : ℕ) (d : Side) (row : ℕ) (e : En
   pub birth : s.birth row ≡ s.epoch
   pub stamp : s.stamp row ≡ 0
 
--- a removal of an absent key adds its entry
+-- `store_value`: the value of a live row with the call's key becomes that of the call, or none
+abbrev pub value_stored : State → ℕ → Entry → State
+value_stored s row e = record s {
+  value = changed s.value row (value_word (call_value e.call));
+  history = s.history ++ e ∷ [];
+  tree = with_value row (call_value e.call) s.tree;
+}
+
+pub record MayStoreValue (s : State) (row : ℕ) (e : Entry) : Type 0 where
+  pub writing : s.writers ≢ 0
+  pub live : IsLive s row
+  pub key : s.key row ≡ call_key e.call
+
+-- `confirm_absent`: the removal of an absent key
 abbrev pub absent_confirmed : State → Entry → State
 absent_confirmed s e = record s { history = s.history ++ e ∷ [] }
 

@@ -1,5 +1,6 @@
--- A rotation in five steps: the row that is to be lowered gets the shrinking mark, its link takes over the subtree
--- between the two, the raised child's link takes the row, the parent's link takes the raised child, and the mark goes.
+-- A rotation lowers a row and raises its child on a side, in five steps. Row gets the shrinking mark; its link on that side
+-- takes over the subtree between the two; the raised row's link across takes row; the parent's link takes the raised row,
+-- and there the tree changes; the mark is cleared with the next count. Right and left are one: d is the side of the child.
 use Rattle.std.specs.Prelude.{ℕ, ◌+◌, ◌≡◌, ◌≢◌}
 use Rattle.snap_stamp.specs.Sides.{other}
 use Rattle.snap_stamp.specs.Stamps.{IsLowering, IsUnmarked}
@@ -10,7 +11,7 @@ use Rattle.snap_rule.specs.State.Change.{lowering, plain, raising}
 use Rattle.snap_rule.specs.TreeChanges.{rotated}
 use Rattle.snap_rule.specs.Updates.{changed, relink}
 
--- a row gets the shrinking mark
+-- `mark_shrinking`
 abbrev pub shrinking_marked : State → ℕ → State
 shrinking_marked s row = record s { stamp = changed s.stamp row (s.stamp row + 2) }
 
@@ -19,9 +20,12 @@ pub record MayMarkShrinking (s : State) (row : ℕ) : Type 0 where
   pub live : IsLive s row
   pub unmarked : IsUnmarked (s.stamp row)
 
--- the lowered row's link comes to be the raised row's across
+-- `link_lowered`
 abbrev pub lowered_linked : State → ℕ → Side → ℕ → State
-lowered_linked s row d raised = record s { link = relink s.link row d (s.link raised (other d)); pending = relink s.pending row d (lowering (s.link raised (other d))) }
+lowered_linked s row d raised = record s {
+  link = relink s.link row d (s.link raised (other d));
+  pending = relink s.pending row d (lowering (s.link raised (other d)));
+}
 
 pub record MayLinkLowered (s : State) (row : ℕ) (d : Side) (raised : ℕ) : Type 0 where
   pub writing : s.writers ≢ 0
@@ -29,9 +33,12 @@ pub record MayLinkLowered (s : State) (row : ℕ) (d : Side) (raised : ℕ) : Ty
   pub raised_live : IsLive s raised
   pub marked : IsLowering (s.stamp row)
 
--- the raised row's link across comes to be the lowered row
+-- `link_raised`
 abbrev pub raised_linked : State → ℕ → Side → ℕ → State
-raised_linked s row d raised = record s { link = relink s.link raised (other d) row; pending = relink s.pending raised (other d) (raising row) }
+raised_linked s row d raised = record s {
+  link = relink s.link raised (other d) row;
+  pending = relink s.pending raised (other d) (raising row);
+}
 
 pub record MayLinkRaised (s : State) (row : ℕ) (d : Side) (raised : ℕ) : Type 0 where
   pub writing : s.writers ≢ 0
@@ -39,7 +46,7 @@ pub record MayLinkRaised (s : State) (row : ℕ) (d : Side) (raised : ℕ) : Typ
   pub raised_live : IsLive s raised
   pub marked : IsLowering (s.stamp row)
 
--- the raised row comes into the lowered row's place
+-- `link_parent`
 abbrev pub parent_linked : State → ℕ → Side → ℕ → Side → ℕ → State
 parent_linked s parent p row d raised = record s {
   link = relink s.link parent p raised;
@@ -50,19 +57,21 @@ parent_linked s parent p row d raised = record s {
 
 pub record MayLinkParent (s : State) (parent : ℕ) (p : Side) (row : ℕ) (d : Side) (raised : ℕ) : Type 0 where
   pub writing : s.writers ≢ 0
+  -- the three rows, one below the other
   pub parent_live : IsParent s parent p
   pub live : IsLive s row
   pub raised_live : IsLive s raised
   pub child : s.link parent p ≡ row
+  pub raised_child : s.links row d ≡ raised
+  pub apart : (raised ≢ row) × (parent ≢ row) × (parent ≢ raised)
+  -- how far the rotation is
   pub marked : IsLowering (s.stamp row)
   pub no_change : s.pending parent p ≡ plain
   pub lowered : s.pending row d ≡ lowering (s.link row d)
-  pub raising_is : s.pending raised (other d) ≡ raising row
-  pub apart : (raised ≢ row) × (parent ≢ row) × (parent ≢ raised)
-  pub raised_child : s.links row d ≡ raised
   pub middle : s.link row d ≡ s.links raised (other d)
+  pub raising_is : s.pending raised (other d) ≡ raising row
 
--- the shrinking mark goes, with a new count
+-- `clear_shrinking`
 abbrev pub shrinking_cleared : State → ℕ → State
 shrinking_cleared s row = record s { stamp = changed s.stamp row (s.stamp row + 2) }
 

@@ -1,4 +1,5 @@
--- A row leaves the tree in two steps: it gets the unlinked mark, and then its parent's link is led past it.
+-- A row without a value and with one child at most leaves the tree in two steps. It gets the unlinked mark, by which the
+-- tree is already without it; then its parent's link is led past it.
 use Rattle.std.specs.Prelude.{if◌then◌else◌, ℕ, ◌+◌, ◌==◌, ◌≡◌, ◌≢◌, ◌⊎◌}
 use Rattle.snap_stamp.specs.Stamps.{IsUnmarked}
 use Rattle.snap_stamp.specs.declared.side.Side.{Side}
@@ -9,12 +10,18 @@ use Rattle.snap_rule.specs.State.Change.{plain, unlinking}
 use Rattle.snap_rule.specs.TreeChanges.{without}
 use Rattle.snap_rule.specs.Updates.{changed, relink}
 
--- a row gets the unlinked mark
+-- the one child of a row, or 0
 abbrev pub only_child : State → ℕ → ℕ
 only_child s row = if s.link row Left == 0 then s.link row Right else s.link row Left
 
+-- `mark_unlinked`
 abbrev pub unlinked_marked : State → ℕ → Side → ℕ → State
-unlinked_marked s parent d row = record s { stamp = changed s.stamp row (s.stamp row + 1); links = relink s.links parent d (only_child s row); tree = without row s.tree; pending = relink s.pending parent d (unlinking row) }
+unlinked_marked s parent d row = record s {
+  stamp = changed s.stamp row (s.stamp row + 1);
+  links = relink s.links parent d (only_child s row);
+  tree = without row s.tree;
+  pending = relink s.pending parent d (unlinking row);
+}
 
 pub record MayMarkUnlinked (s : State) (parent : ℕ) (d : Side) (row : ℕ) : Type 0 where
   pub writing : s.writers ≢ 0
@@ -27,9 +34,12 @@ pub record MayMarkUnlinked (s : State) (parent : ℕ) (d : Side) (row : ℕ) : T
   pub apart : parent ≢ row
   pub one_child : (s.link row Left ≡ 0) ⊎ (s.link row Right ≡ 0)
 
--- the parent's link comes to be the unlinked row's one child
+-- `splice`
 abbrev pub spliced : State → ℕ → Side → State
-spliced s parent d = record s { link = relink s.link parent d (s.links parent d); pending = relink s.pending parent d plain }
+spliced s parent d = record s {
+  link = relink s.link parent d (s.links parent d);
+  pending = relink s.pending parent d plain;
+}
 
 pub record MaySplice (s : State) (parent : ℕ) (d : Side) (row : ℕ) : Type 0 where
   pub writing : s.writers ≢ 0
