@@ -2,8 +2,12 @@
 pub mod Kinds
 pub mod Turns
 pub mod Trees
-pub mod Ends
-pub mod Loads
+pub mod Room
+pub mod Turning
+pub mod Heights
+pub mod Silent
+pub mod Settling
+pub mod Examples
 pub mod Whole
 pub mod Steps
 use Rattle.std.proofs.Common.{◌≡◌, ◌≢◌, ℕ, zero, suc, ◌≤◌, ◌⊎◌, inl, inr, List, [], ◌∷◌, Some, eqb, eq-eqb, ne_eqb, true, false, refl, ap, ap₂, sym, ◌∙◌, subst, arith}
@@ -16,18 +20,22 @@ use Rattle.snap_stamp.specs.declared.side.Side.TheVariants.{Left, Right}
 use Rattle.snap_rule.specs.State.{State, In}
 use Rattle.snap_rule.specs.Rule.{IsLive}
 use Rattle.snap_rule.specs.Debt.Step.{DebtEvolves, Stays, DebtStep}
-use Rattle.snap_rule.specs.Settled.{one_more, child_height, IsSettled}
+use Rattle.snap_rule.specs.Settled.{one_more, IsBalanced, child_height, IsSettled}
 use Rattle.snap_rule.specs.declared.debt.Mark.{Mark}
 use Rattle.snap_rule.specs.declared.debt.Debt.{Debt}
 use Rattle.snap_rule.specs.Debt.{no_debt, IsListed, Owes, OnPath, DebtFits, IsOwed, DebtOk}
 use Rattle.snap_rule.specs.Debt.Lists.{noted, taken, aimed}
 
+-- equal heights
+pub balanced_same : (h l r h' l' r' : ℕ) → h' ≡ h → l' ≡ l → r' ≡ r → IsBalanced h l r → IsBalanced h' l' r'
+balanced_same h l r h' l' r' e x y b = record { sum = e ∙ b.sum ∙ sym (ap₂ (λ (i j : ℕ). one_more (max i j)) x y); left_low = omega (arith, b.left_low); right_low = omega (arith, b.right_low) }
+
 -- a row with the same words and the same heights below it
 pub settled_same : (s s' : State) (n n' : ℕ) → s'.height n' ≡ s.height n → (s.value n ≢ 0 → s'.value n' ≢ 0) → ((d : Side) → s.links n d ≢ 0 → s'.links n' d ≢ 0) → ((d : Side) → child_height s' n' d ≡ child_height s n d) → IsSettled s n → IsSettled s' n'
-settled_same s s' n n' h v l k a =
-    let x : child_height s' n' Left ≡ child_height s n Left = k Left in
-    let y : child_height s' n' Right ≡ child_height s n Right = k Right in
-    (h ∙ a.0 ∙ sym (ap₂ (λ (i j : ℕ). one_more (max i j)) x y), omega (arith, a.1), omega (arith, a.2), elim a.3 [ inl q ↦ inl (v q) | inr q ↦ inr (l Left q.0, l Right q.1) ])
+settled_same s s' n n' h v l k a = (
+  balanced_same (s.height n) (child_height s n Left) (child_height s n Right) (s'.height n') (child_height s' n' Left) (child_height s' n' Right) h (k Left) (k Right) a.0,
+  elim a.1 [ inl q ↦ inl (v q) | inr q ↦ inr (l Left q.0, l Right q.1) ],
+)
 
 -- a live row of a table with the same births
 pub live_same : (s s' : State) (n : ℕ) → s'.birth n ≡ s.birth n → s'.epoch ≡ s.epoch → Stands n s'.tree → IsLive s n → IsLive s' n

@@ -1,5 +1,5 @@
 -- A pass in a change: its own next step, and other passes' steps.
-use Rattle.std.proofs.Common.{◌≡◌, ◌≢◌, ℕ, ◌+◌, ◌%◌, ◌⊎◌, inl, inr, refl, ap, sym, ◌∙◌, subst, ap₂, arith}
+use Rattle.std.proofs.Common.{◌≡◌, ◌≢◌, ℕ, ◌+◌, ◌⊎◌, inl, inr, refl, ap, sym, ◌∙◌, subst, ap₂, arith}
 use Rattle.snap_rule.specs.Tree.{Stands}
 use Rattle.snap_stamp.specs.Sides.{other}
 use Rattle.snap_stamp.specs.declared.side.Side.{Side}

@@ -1,5 +1,6 @@
--- Repair debt. A pass in a write may leave rows unsettled for a while; it then owes them, by a list of rows with the
--- stamps that they had and by a key on whose path they all stand.
+-- Repair debt. A pass in a write may leave rows unsettled for a while, and then owes them a repair: it has a list of rows,
+-- each with a stamp, and a to-do key. It owes a listed row as long as the row has the listed stamp; what it owes stands
+-- on the path of its to-do key. So no row is forgotten, and no other pass can take an owed row off that path unseen.
 pub mod Lists
 pub mod Step
 pub mod Kinds
@@ -12,26 +13,29 @@ use Rattle.snap_rule.specs.Tree.{OnWay, Stands}
 use Rattle.snap_rule.specs.declared.debt.Debt.{Debt}
 use Rattle.snap_rule.specs.declared.debt.Mark.{Mark}
 
+-- a pass in no write, or with nothing left to do
 abbrev pub no_debt : Debt
 no_debt = record { to_do = None; list = []; turning = None }
 
+-- row n is listed with stamp x
 abbrev pub IsListed : ℕ → ℕ → List Mark → Type 0
 IsListed n x [] = ⊥
 IsListed n x (m ∷ l) = (n ≡ m.row) × (x ≡ m.stamp) ⊎ IsListed n x l
 
--- a row is owed as long as it has a listed stamp
+-- the pass with this debt owes row n
 abbrev pub Owes : State → Debt → ℕ → Type 0
 Owes s u n = IsListed n (s.stamp n) u.list
 
 abbrev pub OwesNone : State → Debt → Type 0
 OwesNone s u = (n : ℕ) → ¬ Owes s u n
 
+-- row n stands on the path of the to-do key
 pub record OnPath (s : State) (u : Debt) (n : ℕ) : Type 0 where
   pub key : ℕ
   pub to_do : u.to_do ≡ Some key
   pub way : OnWay s.tree key n
 
--- what is listed is of the past; what is owed is live and on the path of the to-do key
+-- the debt of one pass: listed stamps are of the past, and what is owed is live and on the path of the to-do key
 pub record DebtFits (s : State) (u : Debt) : Type 0 where
   pub past : (n x : ℕ) → IsListed n x u.list → In n s.linked × (x ≤ s.stamp n)
   pub owed : (n : ℕ) → Owes s u n → IsLive s n × OnPath s u n
@@ -40,13 +44,13 @@ pub record IsOwed (s : State) (debts : ℕ → Debt) (n : ℕ) : Type 0 where
   pub pass : ℕ
   pub owes : Owes s (debts pass) n
 
--- the debts of the passes by their numbers; a pass that is in no write has `no_debt`
+-- the debts of all passes, by their numbers: each row of the tree is settled or owed, each debt fits, and a row that one
+-- pass is lowering is owed by no other
 pub record DebtOk (s : State) (debts : ℕ → Debt) : Type 0 where
   pub settled : (n : ℕ) → Stands n s.tree → IsSettled s n ⊎ IsOwed s debts n
   pub each : (j : ℕ) → DebtFits s (debts j)
-  -- what a pass turns no other owes
   pub alone : (i j n : ℕ) → (debts j).turning ≡ Some n → Owes s (debts i) n → i ≡ j
 
--- the row that a pass turns is locked by it
+-- each pass holds the row that it is lowering
 abbrev pub Turns : State → (ℕ → Debt) → Type 0
 Turns s debts = (j n : ℕ) → (debts j).turning ≡ Some n → s.lock n ≡ j + 1

@@ -1,5 +1,5 @@
--- Two tables that show why the rule says what it says. Row 1 with key 10 is being lowered below row 2 with key 5, and
--- all but the parent's link has moved.
+-- Examples that show why the rule says what it says, and no less. In the midst of a rotation row 1 with key 10 is being
+-- lowered below row 2 with key 5: it has the shrinking mark, two links have moved, and only the parent's link is left.
 use Rattle.std.specs.Prelude.{None, Some, [], ◌∷◌, ◌≡◌}
 use Rattle.snap_model.specs.declared.call.Call.TheVariants.{Put}
 use Rattle.snap_stamp.specs.declared.side.Side.TheVariants.{Left, Right}
@@ -17,7 +17,7 @@ use Rattle.snap_rule.specs.declared.debt.Debt.{Debt}
 abbrev pub two_rows : Tree
 two_rows = node (record { row = 1; key = 10; value = Some 0; height = 2 }) (node (record { row = 2; key = 5; value = Some 0; height = 1 }) empty empty) empty
 
--- the state after K21
+-- the table before `link_parent`
 abbrev pub turning : State
 turning = record {
   key = changed (changed (λ n. 0) 1 10) 2 5;
@@ -39,11 +39,11 @@ turning = record {
   writers = 1;
 }
 
--- the state after K22
+-- and after it
 abbrev pub after_turn : State
 after_turn = parent_linked turning 0 Right 1 Left 2
 
--- the row that is lowered leaves the way of key 3 by a step that leaves its stamp
+-- row 1 leaves the way of key 3 by a step that keeps its stamp. So a place stays one only while its stamp has no mark
 pub record LeavesWay : Type 0 where
   pub table : TableOk turning
   pub may : MayLinkParent turning 0 Right 1 Left 2
@@ -52,7 +52,8 @@ pub record LeavesWay : Type 0 where
   pub same_stamp : after_turn.stamp 1 ≡ turning.stamp 1
   pub is_not : ¬ IsPlaced after_turn after_turn.history 1 3
 
--- why `alone` stands in the debts: a pass that lists the marked row that another pass turns would lose it at K22
+-- another pass that lists row 1 with its mark owes it on the path of key 3 before that step, and afterwards owes it beside
+-- the path. So a row that one pass is lowering must be owed by no other
 abbrev pub idle_debt : Debt
 idle_debt = record { to_do = Some 3; list = record { row = 1; stamp = 2 } ∷ []; turning = None }
 
@@ -62,7 +63,8 @@ pub record ListedLeaves : Type 0 where
   pub still : Owes after_turn idle_debt 1
   pub is_not : ¬ OnPath after_turn idle_debt 1
 
--- why `past` does: a stamp that the row has yet to reach would be owed one day
+-- a pass that lists a stamp which the row has yet to reach owes nothing, and owes the row as soon as it gets that stamp. So
+-- listed stamps must be of the past
 abbrev pub early_debt : Debt
 early_debt = record { to_do = None; list = record { row = 1; stamp = 2 } ∷ []; turning = None }
 

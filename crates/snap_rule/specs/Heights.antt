@@ -1,8 +1,9 @@
--- What a pass has loaded under its lock of a row and of the heights below it.
-use Rattle.std.specs.Prelude.{max, ℕ, ◌+◌, ◌≡◌, ◌≢◌, ◌≤◌, ◌⊎◌}
+-- What a pass has loaded, under its lock, of a row and of the heights below it. As long as it holds the row these words
+-- stay, since a stored height needs the lock of the parent.
+use Rattle.std.specs.Prelude.{ℕ, ◌≡◌, ◌≢◌, ◌⊎◌}
 use Rattle.snap_stamp.specs.declared.side.Side.{Side}
 use Rattle.snap_stamp.specs.declared.side.Side.TheVariants.{Left, Right}
-use Rattle.snap_rule.specs.Settled.{child_height, one_more}
+use Rattle.snap_rule.specs.Settled.{IsBalanced, child_height}
 use Rattle.snap_rule.specs.State.{State}
 
 -- the stored heights of a row's children stay
@@ -17,6 +18,7 @@ pub record Loaded : Type 0 where
   pub left_height : ℕ
   pub right_height : ℕ
 
+-- the words are as they were loaded
 pub record LoadedOk (s : State) (n : ℕ) (x : Loaded) : Type 0 where
   pub left : s.links n Left ≡ x.left
   pub right : s.links n Right ≡ x.right
@@ -27,6 +29,4 @@ pub record LoadedOk (s : State) (n : ℕ) (x : Loaded) : Type 0 where
 
 -- the loaded words show that the row is settled
 abbrev pub ShowsSettled : Loaded → Type 0
-ShowsSettled x =
-    (x.height ≡ one_more (max x.left_height x.right_height)) × (x.left_height ≤ x.right_height + 1) × (x.right_height ≤ x.left_height + 1)
-    × ((x.value ≢ 0) ⊎ (x.left ≢ 0) × (x.right ≢ 0))
+ShowsSettled x = IsBalanced x.height x.left_height x.right_height × ((x.value ≢ 0) ⊎ (x.left ≢ 0) × (x.right ≢ 0))

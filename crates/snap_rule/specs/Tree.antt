@@ -1,6 +1,7 @@
 -- A search tree whose nodes have row numbers, and what is read off it: the value at a key, the rows on the way to a
 -- key, the order of its keys. A tree is a value of its own and reads no memory. A node without a value is a routing node.
-use Rattle.std.specs.Prelude.{None, Option, Some, if◌then◌else◌, nat_lt, suc, zero, ℕ, ◌+◌, ◌<◌, ◌==◌, ◌≡◌, ◌≤◌, ◌⊎◌}
+use Rattle.std.specs.Prelude.{None, Option, Some, [], if◌then◌else◌, max, nat_lt, suc, zero, ℕ, ◌++◌, ◌+◌, ◌<◌, ◌==◌, ◌∷◌, ◌≡◌, ◌≤◌, ◌⊎◌}
+use Rattle.snap_model.specs.SortedMap.{Pairs}
 
 pub record Node : Type 0 where
   pub row : ℕ
@@ -41,6 +42,24 @@ Between low high (node n a b) = (low ≤ n.key) × (n.key < high) × Between low
 abbrev pub EachRow : (ℕ → Type 0) → Tree → Type 0
 EachRow P empty = Unit {0}
 EachRow P (node n a b) = P n.row × EachRow P a × EachRow P b
+
+-- how many nodes stand on the longest way down, and in all
+abbrev pub depth : Tree → ℕ
+depth empty = 0
+depth (node n a b) = max (depth a) (depth b) + 1
+
+abbrev pub size : Tree → ℕ
+size empty = 0
+size (node n a b) = size a + size b + 1
+
+-- the pairs of the nodes that have a value, from left to right
+abbrev pub entry : ℕ → Option ℕ → Pairs
+entry k None = []
+entry k (Some v) = (k, v) ∷ []
+
+abbrev pub pairs : Tree → Pairs
+pairs empty = []
+pairs (node n a b) = pairs a ++ (entry n.key n.value ++ pairs b)
 
 -- the word that stores an optional value, and back
 abbrev pub value_word : Option ℕ → ℕ

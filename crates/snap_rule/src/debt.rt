@@ -1,4 +1,4 @@
-ghost use Rattle.snap_rule.specs.Laws.Debts.{DebtSet, DebtSteps, FitsKept, FreeKnown, KeylessOwes, TurnsKept, UnderRoom, UnmarkedStays};
+ghost use Rattle.snap_rule.specs.Laws.Debts.{DebtSteps, FitsKept, FreeKnown, KeylessOwes, TurnsKept, UnderRoom, UnmarkedStays};
 
 use std::collections::LinkedList;
 
@@ -46,10 +46,6 @@ pub fn keyless_owes()
     ensures { KeylessOwes }
 {}
 
-/// Debts that are kept in a list of passes.
-pub fn debt_set()
-    ensures { DebtSet }
-{}
 
 /// Another pass's step keeps a debt: the rows that are owed stay live and on their path.
 pub fn fits_kept()

@@ -1,5 +1,5 @@
 -- Some kinds as whole steps of a pass, with the debts.
-use Rattle.std.proofs.Common.{◌≡◌, ℕ, ◌+◌, inl, inr, List, Option, Some, None, refl, ap, sym, subst, arith, ◌≢◌, ◌≤◌, ◌⊎◌, zero, suc}
+use Rattle.std.proofs.Common.{◌≡◌, ℕ, ◌+◌, inl, inr, List, Option, Some, None, refl, ap, sym, subst, arith, ◌≤◌, ◌⊎◌, zero, suc}
 use Rattle.snap_model.specs.declared.call.Entry.{Entry}
 use Rattle.snap_model.specs.History.{call_key, call_value}
 use Rattle.snap_stamp.specs.declared.side.Side.{Side}
@@ -32,7 +32,7 @@ use Rattle.snap_rule.proofs.Debts.{noted_here}
 use Rattle.snap_rule.proofs.Debts.Kinds.{aim_owes, up_owes, leave_owes, store_owes, silent_owes}
 use Rattle.snap_rule.proofs.Debts.Turns.{height_owes, not_zero, shrink_owes, clear_owes}
 use Rattle.snap_rule.proofs.Debts.Trees.{leaf_owes, copy_owes, unlink_owes, raise_owes}
-use Rattle.snap_rule.proofs.Debts.Ends.{free_known, raise_turns}
+use Rattle.snap_rule.proofs.Debts.Turning.{free_known, raise_turns}
 use Rattle.snap_rule.proofs.Debts.Whole.{turns_known, debt_holds}
 
 -- no step at all

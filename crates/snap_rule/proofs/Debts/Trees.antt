@@ -1,6 +1,5 @@
 -- The debts after the kinds of step that change links of the tree.
-use Rattle.std.proofs.Common.{◌≡◌, ◌≢◌, ℕ, zero, suc, ◌+◌, ◌≤◌, ◌^◌, ◌⊎◌, inl, inr, [], Some, None, refl, ap, ap₂, sym, ◌∙◌, subst, arith}
-use Rattle.std.specs.Prelude.{max}
+use Rattle.std.proofs.Common.{◌≡◌, ◌≢◌, ℕ, zero, suc, ◌+◌, ◌≤◌, ◌^◌, ◌⊎◌, inl, inr, [], Some, refl, ap, ap₂, sym, ◌∙◌, subst, arith}
 use native.Mathlib.Decide.{ℕ_discrete}
 use mathlib.Core.Logic.{dite}
 use Rattle.snap_model.specs.declared.call.Entry.{Entry}
@@ -19,7 +18,7 @@ use Rattle.snap_rule.specs.Kinds.Entries.{leaf_linked, MayLinkLeaf}
 use Rattle.snap_rule.specs.Kinds.Clones.{copy_linked, MayLinkCopy}
 use Rattle.snap_rule.specs.Kinds.Unlinking.{unlinked_marked, MayMarkUnlinked, only_child}
 use Rattle.snap_rule.specs.Kinds.Rotation.{parent_linked, MayLinkParent}
-use Rattle.snap_rule.specs.Settled.{one_more, height_at, child_height, IsSettled}
+use Rattle.snap_rule.specs.Settled.{height_at, child_height, IsSettled}
 use Rattle.snap_rule.specs.declared.debt.Debt.{Debt}
 use Rattle.snap_rule.specs.Debt.{IsListed, Owes, OwesNone, OnPath, DebtOk}
 use Rattle.snap_rule.specs.Debt.Step.{IsFree, Owing}
@@ -32,7 +31,7 @@ use Rattle.snap_rule.proofs.Evolving.Telling.{word_none, unlink_thin, stamp_up, 
 use Rattle.snap_rule.proofs.Readers.Second.{plain_word}
 use Rattle.snap_rule.proofs.Parts.Tree.{row_stands}
 use Rattle.snap_rule.proofs.Table.{leaf_keeps, copy_keeps, unlink_keeps, raise_keeps}
-use Rattle.snap_rule.proofs.Debts.{settled_same, live_same, owed_back, debt_step, own_fits, noted_here, noted_there, noted_back, aimed_list, aimed_there, aimed_key, aimed_turning}
+use Rattle.snap_rule.proofs.Debts.{balanced_same, settled_same, live_same, owed_back, debt_step, own_fits, noted_here, noted_there, noted_back, aimed_list, aimed_there, aimed_key, aimed_turning}
 use Rattle.snap_rule.proofs.Debts.Kinds.{owing, parent_is_live, other_free, shared_settled, row_to_root, row_to_parent, parent_to_row, own_path, on_path}
 use Rattle.snap_rule.proofs.Debts.Turns.{not_zero}
 
@@ -69,7 +68,7 @@ module _ (s : State) (debts : ℕ → Debt) (id parent : ℕ) (d : Side) (row : 
   leaf_settled =
       let x : child_height (leaf_linked s parent d row e) row Left ≡ 0 = ap (height_at s.height) (leaf_ends Left) in
       let y : child_height (leaf_linked s parent d row e) row Right ≡ 0 = ap (height_at s.height) (leaf_ends Right) in
-      (may.height ∙ sym (ap₂ (λ (i j : ℕ). one_more (max i j)) x y), omega arith, omega arith, inl (λ z. may.is_put (word_none (call_value e.call) (sym may.value ∙ z))))
+      (balanced_same 1 0 0 (s.height row) (child_height (leaf_linked s parent d row e) row Left) (child_height (leaf_linked s parent d row e) row Right) may.height x y (record { sum = refl; left_low = omega arith; right_low = omega arith }), inl (λ z. may.is_put (word_none (call_value e.call) (sym may.value ∙ z))))
 
   leaf_same : (n : ℕ) (x : Side) → Stands n s.tree → n ≢ parent → relink (changed s.links row (s.link row)) parent d row n x ≡ s.links n x
   leaf_same n x h z = relink_other (changed s.links row (s.link row)) parent d row n x z ∙ ap (λ (f : Side → ℕ). f x) (changed_other s.links row (s.link row) n (fresh n h))

@@ -40,7 +40,7 @@ module _ (s : State) (debts : ℕ → Debt) (id parent : ℕ) (d : Side) (row h 
 
   same_height : (n : ℕ) → IsSettled s n → changed s.height row h n ≡ s.height n
   same_height n a = dite (ℕ_discrete n row)
-      (λ e. subst (λ (x : ℕ). changed s.height row h x ≡ s.height x) (sym e) (changed_same s.height row h ∙ may.is_height ∙ sym (subst (IsSettled s) e a).0))
+      (λ e. subst (λ (x : ℕ). changed s.height row h x ≡ s.height x) (sym e) (changed_same s.height row h ∙ may.is_height ∙ sym (subst (IsSettled s) e a).0.sum))
       (λ e. changed_other s.height row h n e)
 
   height_settled : (n : ℕ) → Stands n s.tree → n ≢ parent → IsSettled s n → IsSettled (height_stored s row h) n

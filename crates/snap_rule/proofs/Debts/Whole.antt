@@ -15,7 +15,8 @@ use Rattle.snap_rule.specs.Room.{HasRoom}
 use Rattle.snap_rule.specs.Debt.Kinds.{Turning}
 use Rattle.snap_rule.specs.Debt.Views.{DebtDoing, DebtHolds}
 use Rattle.snap_rule.proofs.WholeSteps.{seat_back}
-use Rattle.snap_rule.proofs.Debts.Ends.{room_before, turn_kept}
+use Rattle.snap_rule.proofs.Debts.Room.{room_before}
+use Rattle.snap_rule.proofs.Debts.Turning.{turn_kept}
 
 seat_there : (views : List View) (id : ℕ) (v w : View) → at_seat views id ≡ Some v → at_seat (with_seat views id w) id ≡ Some w
 seat_there [] id v w e = cc (e)

@@ -1,9 +1,9 @@
 -- A settled tree is shallow.
 use Rattle.std.proofs.Common.{◌≡◌, ℕ, zero, suc, ◌+◌, ◌*◌, ◌≤◌, ◌⊎◌, max, inl, inr, length, length-append, Option, Some, None, refl, add-one, arith}
 use Rattle.std.proofs.lemmas.Bool.{cases_lt, cases_eq}
-use Rattle.snap_rule.specs.Tree.{Node, Tree}
+use Rattle.snap_rule.specs.Tree.{Node, Tree, depth, size, entry, pairs}
 use Rattle.snap_rule.specs.Tree.Tree.{empty, node}
-use Rattle.snap_rule.specs.Settled.{depth, size, top_height, HasValue, IsFull, IsSettledTree, least, entry, pairs}
+use Rattle.snap_rule.specs.Settled.{top_height, HasValue, IsFull, IsSettledTree, least}
 
 least_more : (d : ℕ) → least d ≤ least (suc d)
 least_more zero = omega arith
@@ -27,19 +27,19 @@ least_node x y c d i j u v = elim (cases_lt x y) [
 pub height_real : (t : Tree) → IsSettledTree t → depth t ≤ 18446744073709551615 → top_height t ≡ depth t
 height_real empty h l = refl
 height_real (node n a b) h l =
-    let p = height_real a h.4 (omega arith) in
-    let q = height_real b h.5 (omega arith) in
-    omega (arith, h.0, p, q)
+    let p = height_real a h.2 (omega arith) in
+    let q = height_real b h.3 (omega arith) in
+    omega (arith, h.0.sum, p, q)
 
 -- and it has at least so many nodes
 pub least_size : (t : Tree) → IsSettledTree t → depth t ≤ 18446744073709551615 → least (depth t) ≤ size t
 least_size empty h l = omega arith
 least_size (node n a b) h l =
-    let p = height_real a h.4 (omega arith) in
-    let q = height_real b h.5 (omega arith) in
-    let i = least_size a h.4 (omega arith) in
-    let j = least_size b h.5 (omega arith) in
-    least_node (depth a) (depth b) (size a) (size b) i j (omega (arith, h.1, p, q)) (omega (arith, h.2, p, q))
+    let p = height_real a h.2 (omega arith) in
+    let q = height_real b h.3 (omega arith) in
+    let i = least_size a h.2 (omega arith) in
+    let j = least_size b h.3 (omega arith) in
+    least_node (depth a) (depth b) (size a) (size b) i j (omega (arith, h.0.left_low, p, q)) (omega (arith, h.0.right_low, p, q))
 
 depth_size : (t : Tree) → depth t ≤ size t
 depth_size empty = omega arith
@@ -48,7 +48,7 @@ depth_size (node n a b) = omega (arith, depth_size a, depth_size b)
 -- nodes without a value are fewer than those with one
 pub size_pairs : (t : Tree) → IsSettledTree t → (size t ≤ 2 * length (pairs t)) × (IsFull t → size t + 1 ≤ 2 * length (pairs t))
 size_pairs empty h = (omega arith, λ z. absurd z)
-size_pairs (node n a b) h = size_node n a b h.3 (size_pairs a h.4) (size_pairs b h.5)
+size_pairs (node n a b) h = size_node n a b h.1 (size_pairs a h.2) (size_pairs b h.3)
   where
     entry_length : (k : ℕ) (o : Option ℕ) → HasValue o → length (entry k o) ≡ 1
     entry_length k None z = absurd z

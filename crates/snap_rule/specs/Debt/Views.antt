@@ -1,4 +1,5 @@
--- The debts beside the views of the passes.
+-- The debts beside the views. They are spoken of only while there is room; what a pass in a change knows of its debt holds
+-- in any case.
 use Rattle.std.specs.Prelude.{List, None, Some, ℕ, ◌≡◌, ◌≢◌, ◌⊎◌}
 use Rattle.snap_stamp.specs.declared.side.Side.{Side}
 use Rattle.snap_rule.specs.Debt.{DebtOk, OwesNone, no_debt}
@@ -21,19 +22,20 @@ DebtDoing s (Lowered parent p row d raised) v = Turning s v row × AimsAtTurn s 
 DebtDoing s (Lifted parent p row d raised) v = Turning s v row × AimsAtTurn s v row raised
 DebtDoing s (Turned row) v = Turning s v row
 
+-- the debts under room, what each pass knows of its own, and no debt for a number that no pass has
 pub record DebtHolds (s : State) (views : List View) (debts : ℕ → Debt) (next rows : ℕ) : Type 0 where
   pub owing : HasRoom s next rows → DebtOk s debts
   pub doing : (j : ℕ) (u : View) → at_seat views j ≡ Some u → DebtDoing s u.doing (debts u.who)
   pub absent : (k : ℕ) → ((j : ℕ) (u : View) → at_seat views j ≡ Some u → u.who ≢ k) → debts k ≡ no_debt
 
--- a step of the pass at a seat
+-- the pass at seat id, with view v, makes a step, and its view is w afterwards
 pub record Stepping (s : State) (views : List View) (id : ℕ) (v w : View) (debts : ℕ → Debt) (next rows : ℕ) : Type 0 where
   pub holds : Holds s views
   pub debt : DebtHolds s views debts next rows
   pub at : at_seat views id ≡ Some v
   pub who : w.who ≡ v.who
 
--- K19, K22 and K23 as whole steps: what K22 and K23 need of the debt is in the view
+-- what `mark_shrinking` needs beside its own condition: the two rows below the parent, and under room the to-do key
 pub record ShrinkAims (s : State) (v : Debt) (parent : ℕ) (p : Side) (row : ℕ) (d : Side) (raised key next rows : ℕ) : Type 0 where
   pub parent_live : IsParent s parent p
   pub child : s.links parent p ≡ row

@@ -1,7 +1,7 @@
 -- Debts in general: one law for a step, and what follows from the debts of all passes.
-use Rattle.std.specs.Prelude.{List, None, Some, [], if◌then◌else◌, ℕ, ◌+◌, ◌==◌, ◌∷◌, ◌≡◌, ◌≢◌, ◌≤◌, ◌⊎◌}
+use Rattle.std.specs.Prelude.{None, Some, ℕ, ◌+◌, ◌≡◌, ◌≢◌, ◌≤◌}
 use Rattle.snap_stamp.specs.Stamps.{IsUnmarked}
-use Rattle.snap_rule.specs.Debt.{DebtFits, DebtOk, Owes, OwesNone, Turns, no_debt}
+use Rattle.snap_rule.specs.Debt.{DebtFits, DebtOk, Owes, OwesNone, Turns}
 use Rattle.snap_rule.specs.Debt.Step.{DebtEvolves, DebtStep, IsFree}
 use Rattle.snap_rule.specs.Evolves.{Evolves}
 use Rattle.snap_rule.specs.Room.{HasRoom}
@@ -32,26 +32,6 @@ UnderRoom = (s s' : State) (next next' rows : ℕ) (debts debts' : ℕ → Debt)
 -- a pass without a to-do key owes nothing
 abbrev pub KeylessOwes : Type 0
 KeylessOwes = (s : State) (debts : ℕ → Debt) (j : ℕ) → DebtOk s debts → (debts j).to_do ≡ None → OwesNone s (debts j)
-
--- the passes in a list, each with its number and its debt
-pub record PassDebt : Type 0 where
-  pub who : ℕ
-  pub debt : Debt
-
-abbrev pub debts_of : List PassDebt → ℕ → Debt
-debts_of [] j = no_debt
-debts_of (v ∷ vs) j = if v.who == j then v.debt else debts_of vs j
-
-abbrev pub with_debt : List PassDebt → ℕ → Debt → List PassDebt
-with_debt [] i w = []
-with_debt (v ∷ vs) i w = if v.who == i then record { who = v.who; debt = w } ∷ vs else v ∷ with_debt vs i w
-
-abbrev pub HasPass : ℕ → List PassDebt → Type 0
-HasPass i [] = ⊥
-HasPass i (v ∷ vs) = (v.who ≡ i) ⊎ HasPass i vs
-
-abbrev pub DebtSet : Type 0
-DebtSet = (l : List PassDebt) (i : ℕ) (w : Debt) → HasPass i l → (debts_of (with_debt l i w) i ≡ w) × ((j : ℕ) → j ≢ i → debts_of (with_debt l i w) j ≡ debts_of l j)
 
 -- what a step leaves to another pass keeps that pass's debt: its owed rows stay live and on its path
 abbrev pub FitsKept : Type 0

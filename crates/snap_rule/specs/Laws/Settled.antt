@@ -6,9 +6,9 @@ use Rattle.snap_rule.specs.Evolves.{Evolves}
 use Rattle.snap_rule.specs.Kinds.Clones.{MayCut, cut}
 use Rattle.snap_rule.specs.Room.{HasReason, HasRoom, StampOut}
 use Rattle.snap_rule.specs.Rule.{TableOk}
-use Rattle.snap_rule.specs.Settled.{IsSettled, IsSettledTree, depth, least, pairs, size}
+use Rattle.snap_rule.specs.Settled.{IsSettled, IsSettledTree, least}
 use Rattle.snap_rule.specs.State.{IsImage, IsShared, State}
-use Rattle.snap_rule.specs.Tree.{Stands, Tree}
+use Rattle.snap_rule.specs.Tree.{Stands, Tree, depth, pairs, size}
 use Rattle.snap_rule.specs.declared.debt.Debt.{Debt}
 
 -- room after a step gives room before it

@@ -1,4 +1,4 @@
-use Rattle.snap_rule.proofs.Debts.Ends.{early_stamp as the_early_stamp}
+use Rattle.snap_rule.proofs.Debts.Examples.{early_stamp as the_early_stamp}
 use Rattle.snap_rule.proofs.counterexamples.early_stamp.Goals as goal
 
 pub returns : goal.returns

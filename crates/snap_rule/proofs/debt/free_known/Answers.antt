@@ -1,4 +1,4 @@
-use Rattle.snap_rule.proofs.Debts.Ends.{free_known as the_free_known}
+use Rattle.snap_rule.proofs.Debts.Turning.{free_known as the_free_known}
 use Rattle.snap_rule.proofs.debt.free_known.Goals as goal
 
 pub returns : goal.returns

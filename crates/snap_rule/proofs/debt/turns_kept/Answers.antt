@@ -1,4 +1,4 @@
-use Rattle.snap_rule.proofs.Debts.Ends.{turns_kept as the_turns_kept}
+use Rattle.snap_rule.proofs.Debts.Turning.{turns_kept as the_turns_kept}
 use Rattle.snap_rule.proofs.debt.turns_kept.Goals as goal
 
 pub returns : goal.returns

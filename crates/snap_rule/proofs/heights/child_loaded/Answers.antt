@@ -1,4 +1,4 @@
-use Rattle.snap_rule.proofs.Debts.Loads.{child_loaded as the_child_loaded}
+use Rattle.snap_rule.proofs.Debts.Heights.{child_loaded as the_child_loaded}
 use Rattle.snap_rule.proofs.heights.child_loaded.Goals as goal
 
 pub returns : goal.returns

@@ -1,4 +1,4 @@
-use Rattle.snap_rule.proofs.Debts.Ends.{heights_height as the_heights_height}
+use Rattle.snap_rule.proofs.Debts.Heights.{heights_height as the_heights_height}
 use Rattle.snap_rule.proofs.heights.heights_height.Goals as goal
 
 pub returns : goal.returns

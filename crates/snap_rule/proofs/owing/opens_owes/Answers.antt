@@ -1,4 +1,4 @@
-use Rattle.snap_rule.proofs.Debts.Ends.{opens_owes as the_opens_owes}
+use Rattle.snap_rule.proofs.Debts.Turning.{opens_owes as the_opens_owes}
 use Rattle.snap_rule.proofs.owing.opens_owes.Goals as goal
 
 pub returns : goal.returns

@@ -1,4 +1,4 @@
-use Rattle.snap_rule.proofs.Debts.Ends.{shrink_turns as the_shrink_turns}
+use Rattle.snap_rule.proofs.Debts.Turning.{shrink_turns as the_shrink_turns}
 use Rattle.snap_rule.proofs.owing.shrink_turns.Goals as goal
 
 pub returns : goal.returns

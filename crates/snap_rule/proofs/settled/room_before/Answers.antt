@@ -1,4 +1,4 @@
-use Rattle.snap_rule.proofs.Debts.Ends.{room_before as the_room_before}
+use Rattle.snap_rule.proofs.Debts.Room.{room_before as the_room_before}
 use Rattle.snap_rule.proofs.settled.room_before.Goals as goal
 
 pub returns : goal.returns
