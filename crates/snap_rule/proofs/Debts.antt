@@ -17,7 +17,7 @@ use mathlib.Core.Logic.{dite}
 use Rattle.snap_stamp.specs.declared.side.Side.{Side}
 use Rattle.snap_rule.specs.Tree.{Stands}
 use Rattle.snap_stamp.specs.declared.side.Side.TheVariants.{Left, Right}
-use Rattle.snap_rule.specs.State.{State, In}
+use Rattle.snap_rule.specs.State.{State, In, IsShared}
 use Rattle.snap_rule.specs.Rule.{IsLive}
 use Rattle.snap_rule.specs.Debt.Step.{DebtEvolves, Stays, DebtStep}
 use Rattle.snap_rule.specs.Settled.{one_more, IsBalanced, child_height, IsSettled}
@@ -40,6 +40,10 @@ settled_same s s' n n' h v l k a = (
 -- a live row of a table with the same births
 pub live_same : (s s' : State) (n : ℕ) → s'.birth n ≡ s.birth n → s'.epoch ≡ s.epoch → Stands n s'.tree → IsLive s n → IsLive s' n
 live_same s s' n b e h l = record { stands = h; own = λ u. l.own (record { is_row = u.is_row; older = (let o = u.older in omega arith) }) }
+
+-- and it isn't shared
+pub same_live : (s s' : State) (n : ℕ) → s'.birth n ≡ s.birth n → s'.epoch ≡ s.epoch → IsLive s n → ¬ IsShared s' n
+same_live s s' n b e l u = l.own (record { is_row = u.is_row; older = (let o = u.older in omega arith) })
 
 -- what is owed after a step and listed before it was owed before it
 pub owed_back : (s s' : State) (v : Debt) (n : ℕ) → ((m : ℕ) → In m s.linked → In m s'.linked × (s.stamp m ≤ s'.stamp m)) → DebtFits s v → IsListed n (s'.stamp n) v.list → (s'.stamp n ≡ s.stamp n) × Owes s v n

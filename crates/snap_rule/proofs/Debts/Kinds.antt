@@ -10,15 +10,12 @@ use Rattle.snap_rule.specs.Tree.Tree.{empty, node}
 use Rattle.snap_rule.specs.State.{State, In, IsShared, Reads}
 use Rattle.snap_rule.specs.Rule.{IsLive, TableOk, IsParent}
 use Rattle.snap_rule.specs.Updates.{changed}
-use Rattle.snap_rule.specs.Kinds.Entries.{value_stored, MayStoreValue, absent_confirmed}
+use Rattle.snap_rule.specs.Kinds.Entries.{value_stored, MayStoreValue}
 use Rattle.snap_rule.specs.Kinds.Clones.{cut}
-use Rattle.snap_rule.specs.Kinds.Unlinking.{spliced}
-use Rattle.snap_rule.specs.Kinds.Rotation.{lowered_linked, raised_linked}
-use Rattle.snap_rule.specs.Kinds.Words.{lock_stored, header_stored}
 use Rattle.snap_rule.specs.Settled.{IsSettled}
 use Rattle.snap_rule.specs.declared.debt.Debt.{Debt}
-use Rattle.snap_rule.specs.Debt.{no_debt, IsListed, Owes, OwesNone, OnPath, DebtFits, DebtOk}
-use Rattle.snap_rule.specs.Debt.Step.{DebtEvolves, IsFree, DebtStep, Owing, IsSilent}
+use Rattle.snap_rule.specs.Debt.{no_debt, Owes, OwesNone, OnPath, DebtFits, DebtOk}
+use Rattle.snap_rule.specs.Debt.Step.{DebtEvolves, IsFree, DebtStep, Owing}
 use Rattle.snap_rule.specs.Debt.Lists.{taken, aimed}
 use Rattle.snap_rule.specs.Debt.Kinds.{stored_debt, MayPassUp, AimsBeyond, MayAim}
 use Rattle.snap_rule.proofs.Updates.{changed_same, changed_other}
@@ -87,39 +84,6 @@ module _ (s : State) (debts : ℕ → Debt) (id row : ℕ) (e : Entry) (ok : Tab
 
   pub store_owes : (call_value e.call ≡ None → OwesNone s (debts id)) → Owing (value_stored s row e) debts id (stored_debt s row (call_key e.call) (call_value e.call) (debts id))
   store_owes none = owing s (value_stored s row e) debts id (stored_debt s row (call_key e.call) (call_value e.call) (debts id)) debt (store_step (call_value e.call) refl none)
-
--- nothing of the tree changes
-pub silent_owes : (s s' : State) (debts : ℕ → Debt) → IsSilent s s' → DebtOk s debts → DebtOk s' debts
-silent_owes s s' debts q ok = record {
-  settled = λ n h. let i = subst (λ (t : Tree). Stands n t) q.tree h in elim (ok.settled n i) [ inl a ↦ inl (q.settled n i a) | inr o ↦ inr (record { pass = o.pass; owes = subst (λ (x : ℕ). IsListed n x (debts o.pass).list) (sym (q.stamp n)) o.owes }) ];
-  each = λ j. let u = ok.each j in record {
-    past = λ n x h. let p = u.past n x h in let e = q.stamp n in (q.linked n p.0, omega (arith, p.1));
-    owed = λ n h. let o = u.owed n (subst (λ (x : ℕ). IsListed n x (debts j).list) (q.stamp n) h) in
-        (record { stands = subst (λ (t : Tree). Stands n t) (sym q.tree) o.0.stands; own = q.live n o.0 }, record { key = o.1.key; to_do = o.1.to_do; way = subst (λ (t : Tree). OnWay t o.1.key n) (sym q.tree) o.1.way });
-  };
-  alone = λ i j n t o. ok.alone i j n t (subst (λ (x : ℕ). IsListed n x (debts i).list) (q.stamp n) o);
-}
-
-pub same_live : (s s' : State) (n : ℕ) → s'.birth n ≡ s.birth n → s'.epoch ≡ s.epoch → IsLive s n → ¬ IsShared s' n
-same_live s s' n b e l u = l.own (record { is_row = u.is_row; older = (let o = u.older in omega arith) })
-
-pub absent_silent : (s : State) (e : Entry) → IsSilent s (absent_confirmed s e)
-absent_silent s e = record { linked = λ n h. h; stamp = λ n. refl; tree = refl; live = λ n l. same_live s (absent_confirmed s e) n refl refl l; settled = λ n h a. a }
-
-pub lock_silent : (s : State) (row x : ℕ) → IsSilent s (lock_stored s row x)
-lock_silent s row x = record { linked = λ n h. h; stamp = λ n. refl; tree = refl; live = λ n l. same_live s (lock_stored s row x) n refl refl l; settled = λ n h a. a }
-
-pub header_silent : (s : State) (g a w : ℕ) → IsSilent s (header_stored s g a w)
-header_silent s g a w = record { linked = λ n h. h; stamp = λ n. refl; tree = refl; live = λ n l. same_live s (header_stored s g a w) n refl refl l; settled = λ n h x. x }
-
-pub splice_silent : (s : State) (parent : ℕ) (d : Side) → IsSilent s (spliced s parent d)
-splice_silent s parent d = record { linked = λ n h. h; stamp = λ n. refl; tree = refl; live = λ n l. same_live s (spliced s parent d) n refl refl l; settled = λ n h x. x }
-
-pub lower_silent : (s : State) (row : ℕ) (d : Side) (raised : ℕ) → IsSilent s (lowered_linked s row d raised)
-lower_silent s row d raised = record { linked = λ n h. h; stamp = λ n. refl; tree = refl; live = λ n l. same_live s (lowered_linked s row d raised) n refl refl l; settled = λ n h x. x }
-
-pub lift_silent : (s : State) (row : ℕ) (d : Side) (raised : ℕ) → IsSilent s (raised_linked s row d raised)
-lift_silent s row d raised = record { linked = λ n h. h; stamp = λ n. refl; tree = refl; live = λ n l. same_live s (raised_linked s row d raised) n refl refl l; settled = λ n h x. x }
 
 -- the cut
 pub cut_owes : (s : State) (debts : ℕ → Debt) → DebtOk s debts → ((j : ℕ) → OwesNone s (debts j)) → DebtOk (cut s) debts

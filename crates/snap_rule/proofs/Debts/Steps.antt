@@ -29,7 +29,8 @@ use Rattle.snap_rule.proofs.Evolving.Telling.{same_row, copy_evolves, unlink_evo
 use Rattle.snap_rule.proofs.Evolving.Silent.{clear_evolves, leaf_evolves, height_evolves}
 use Rattle.snap_rule.proofs.LeftAlone.{leaf_leaves, copy_leaves, unlink_leaves, height_leaves, store_leaves, shrink_leaves, raise_leaves, clear_leaves}
 use Rattle.snap_rule.proofs.Debts.{noted_here}
-use Rattle.snap_rule.proofs.Debts.Kinds.{aim_owes, up_owes, leave_owes, store_owes, silent_owes}
+use Rattle.snap_rule.proofs.Debts.Kinds.{aim_owes, up_owes, leave_owes, store_owes}
+use Rattle.snap_rule.proofs.Debts.Silent.{silent_owes}
 use Rattle.snap_rule.proofs.Debts.Turns.{height_owes, not_zero, shrink_owes, clear_owes}
 use Rattle.snap_rule.proofs.Debts.Trees.{leaf_owes, copy_owes, unlink_owes, raise_owes}
 use Rattle.snap_rule.proofs.Debts.Turning.{free_known, raise_turns}

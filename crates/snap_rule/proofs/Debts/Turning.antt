@@ -17,7 +17,7 @@ use Rattle.snap_rule.specs.Debt.Step.{IsFree}
 use Rattle.snap_rule.specs.Debt.Kinds.{Turning, AimsAtTurn, MayOweTurn, shrink_debt, raise_debt}
 use Rattle.snap_rule.proofs.Trees.{own_way, way_stands}
 use Rattle.snap_rule.proofs.Debts.{noted_here}
-use Rattle.snap_rule.proofs.Debts.Kinds.{same_live}
+use Rattle.snap_rule.proofs.Debts.{same_live}
 use Rattle.snap_rule.proofs.Debts.Turns.{not_zero}
 
 -- unmarked rows: what evolves keeps them on their paths

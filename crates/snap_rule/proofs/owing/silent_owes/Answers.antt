@@ -1,4 +1,4 @@
-use Rattle.snap_rule.proofs.Debts.Kinds.{silent_owes as the_silent_owes}
+use Rattle.snap_rule.proofs.Debts.Silent.{silent_owes as the_silent_owes}
 use Rattle.snap_rule.proofs.owing.silent_owes.Goals as goal
 
 pub returns : goal.returns
