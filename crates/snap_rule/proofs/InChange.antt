@@ -11,7 +11,7 @@ use Rattle.snap_rule.specs.Rule.{TreeOk, ChangesOk, IsLive, Fits, IsParent}
 use Rattle.snap_rule.specs.Updates.{relink}
 use Rattle.snap_rule.specs.Kinds.Unlinking.{unlinked_marked, MayMarkUnlinked, only_child, MaySplice}
 use Rattle.snap_rule.specs.Kinds.Rotation.{shrinking_marked, lowered_linked, MayLinkLowered, raised_linked, MayLinkRaised, parent_linked, MayLinkParent, MayClearShrinking}
-use Rattle.snap_rule.specs.Doing.{Concerns, IsTurn, NotNamed, DoingOk, Apart}
+use Rattle.snap_rule.specs.Doing.{Concerns, IsRotation, NotNamed, DoingOk, Apart}
 use Rattle.snap_rule.specs.declared.change.Doing.{Doing}
 use Rattle.snap_rule.specs.declared.change.Doing.TheVariants.{Nothing, Unlinked, Shrunk, Lowered, Lifted, Turned}
 use Rattle.snap_rule.proofs.Updates.{changed_same, relink_other, same_place, relink_same, relink_away}
@@ -29,7 +29,7 @@ parent_same s s' n d f (inr l) = inr (f l)
 pub unlink_doing : (s : State) (parent : ℕ) (d : Side) (row : ℕ) → TreeOk s → ChangesOk s → MayMarkUnlinked s parent d row → DoingOk (unlinked_marked s parent d row) (Unlinked parent d row (only_child s row))
 unlink_doing s parent d row tree_ok changes_ok may = record { parent_live = parent_after_unlink s parent d row tree_ok changes_ok may; change = relink_same s.pending parent d (unlinking row); child = relink_same s.links parent d (only_child s row) }
 
-pub shrink_doing : (s : State) (parent : ℕ) (p : Side) (row : ℕ) (d : Side) (raised : ℕ) → IsTurn s parent p row d raised → IsUnmarked (s.stamp row) → s.pending row d ≡ plain → NotNamed s row → DoingOk (shrinking_marked s row) (Shrunk parent p row d raised)
+pub shrink_doing : (s : State) (parent : ℕ) (p : Side) (row : ℕ) (d : Side) (raised : ℕ) → IsRotation s parent p row d raised → IsUnmarked (s.stamp row) → s.pending row d ≡ plain → NotNamed s row → DoingOk (shrinking_marked s row) (Shrunk parent p row d raised)
 shrink_doing s parent p row d raised t u q z =
     let s' : State = shrinking_marked s row in
     let live : (n : ℕ) → IsLive s n → IsLive s' n = λ n. live_same s s' n (λ h. h) refl refl in
@@ -145,7 +145,7 @@ clear_doing s row writing h = record { writing = writing; live = h.live; marked 
 
 -- a step that leaves the rows of a change alone
 module _ (s s' : State) where
-  turn_kept : (parent : ℕ) (p : Side) (row : ℕ) (d : Side) (raised : ℕ) → Apart s s' parent → Apart s s' row → Apart s s' raised → IsTurn s parent p row d raised → IsTurn s' parent p row d raised
+  turn_kept : (parent : ℕ) (p : Side) (row : ℕ) (d : Side) (raised : ℕ) → Apart s s' parent → Apart s s' row → Apart s s' raised → IsRotation s parent p row d raised → IsRotation s' parent p row d raised
   turn_kept parent p row d raised a b c t = record {
     parent_live = parent_same s s' parent p a.live t.parent_live;
     live = b.live t.live;

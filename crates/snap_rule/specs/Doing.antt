@@ -20,7 +20,7 @@ Concerns (Lifted parent p row d raised) n = (n ≡ parent) ⊎ (n ≡ row) ⊎ (
 Concerns (Turned row) n = n ≡ row
 
 -- a rotation up to its fourth step: the parent, the row, and its child on side d that is to be raised
-pub record IsTurn (s : State) (parent : ℕ) (p : Side) (row : ℕ) (d : Side) (raised : ℕ) : Type 0 where
+pub record IsRotation (s : State) (parent : ℕ) (p : Side) (row : ℕ) (d : Side) (raised : ℕ) : Type 0 where
   pub parent_live : IsParent s parent p
   pub live : IsLive s row
   pub raised_live : IsLive s raised
@@ -42,14 +42,14 @@ pub record HasUnlinked (s : State) (parent : ℕ) (d : Side) (row only : ℕ) : 
 
 -- after `mark_shrinking`: no link has moved
 pub record HasShrunk (s : State) (parent : ℕ) (p : Side) (row : ℕ) (d : Side) (raised : ℕ) : Type 0 where
-  pub turn : IsTurn s parent p row d raised
+  pub turn : IsRotation s parent p row d raised
   pub marked : IsLowering (s.stamp row)
   pub row_link : s.pending row d ≡ plain
   pub not_named : NotNamed s row
 
 -- after `link_lowered`: the row's link leads to the subtree between the two
 pub record HasLowered (s : State) (parent : ℕ) (p : Side) (row : ℕ) (d : Side) (raised : ℕ) : Type 0 where
-  pub turn : IsTurn s parent p row d raised
+  pub turn : IsRotation s parent p row d raised
   pub marked : IsLowering (s.stamp row)
   pub row_link : s.pending row d ≡ lowering (s.link row d)
   pub middle : s.link row d ≡ s.links raised (other d)
@@ -57,7 +57,7 @@ pub record HasLowered (s : State) (parent : ℕ) (p : Side) (row : ℕ) (d : Sid
 
 -- after `link_raised`: the raised row's link leads to the row, and no other link is raising it
 pub record HasLifted (s : State) (parent : ℕ) (p : Side) (row : ℕ) (d : Side) (raised : ℕ) : Type 0 where
-  pub turn : IsTurn s parent p row d raised
+  pub turn : IsRotation s parent p row d raised
   pub marked : IsLowering (s.stamp row)
   pub row_link : s.pending row d ≡ lowering (s.link row d)
   pub middle : s.link row d ≡ s.links raised (other d)

@@ -46,7 +46,6 @@ pub fn keyless_owes()
     ensures { KeylessOwes }
 {}
 
-
 /// Another pass's step keeps a debt: the rows that are owed stay live and on their path.
 pub fn fits_kept()
     ensures { FitsKept }

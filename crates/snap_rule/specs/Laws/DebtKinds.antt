@@ -17,17 +17,23 @@ use Rattle.snap_rule.specs.Rule.{TableOk, opened}
 use Rattle.snap_rule.specs.State.{In, State}
 use Rattle.snap_rule.specs.declared.debt.Debt.{Debt}
 
+-- `store_value`
 abbrev pub StoreOwes : Type 0
-StoreOwes = (s : State) (debts : ℕ → Debt) (id row : ℕ) (e : Entry) → TableOk s → DebtOk s debts → MayStoreValue s row e → IsFree debts id row
-    → (call_value e.call ≡ None → OwesNone s (debts id)) → Owing (value_stored s row e) debts id (stored_debt s row (call_key e.call) (call_value e.call) (debts id))
+StoreOwes = (s : State) (debts : ℕ → Debt) (id row : ℕ) (e : Entry) → TableOk s → DebtOk s debts
+    → MayStoreValue s row e → IsFree debts id row → (call_value e.call ≡ None → OwesNone s (debts id))
+    → Owing (value_stored s row e) debts id (stored_debt s row (call_key e.call) (call_value e.call) (debts id))
 
+-- `link_leaf`
 abbrev pub LeafOwes : Type 0
-LeafOwes = (s : State) (debts : ℕ → Debt) (id parent : ℕ) (d : Side) (row : ℕ) (e : Entry) → TableOk s → DebtOk s debts → MayLinkLeaf s parent d row e → IsFree debts id parent
-    → OwesNone s (debts id) → Owing (leaf_linked s parent d row e) debts id (leaf_debt s parent (call_key e.call))
+LeafOwes = (s : State) (debts : ℕ → Debt) (id parent : ℕ) (d : Side) (row : ℕ) (e : Entry) → TableOk s
+    → DebtOk s debts → MayLinkLeaf s parent d row e → IsFree debts id parent → OwesNone s (debts id)
+    → Owing (leaf_linked s parent d row e) debts id (leaf_debt s parent (call_key e.call))
 
+-- the silent kinds
 abbrev pub SilentOwes : Type 0
 SilentOwes = (s s' : State) (debts : ℕ → Debt) → IsSilent s s' → DebtOk s debts → DebtOk s' debts
 
+-- which these are
 abbrev pub SilentKinds : Type 0
 SilentKinds =
     ((s : State) (e : Entry) → IsSilent s (absent_confirmed s e))
@@ -39,58 +45,83 @@ SilentKinds =
 
 -- a pass enters or leaves a write
 abbrev pub LeaveOwes : Type 0
-LeaveOwes = (s : State) (debts : ℕ → Debt) (id : ℕ) → DebtOk s debts → OwesNone s (debts id) → Owing s debts id no_debt
+LeaveOwes = (s : State) (debts : ℕ → Debt) (id : ℕ) → DebtOk s debts → OwesNone s (debts id)
+    → Owing s debts id no_debt
 
+-- `store_height`
 abbrev pub HeightOwes : Type 0
-HeightOwes = (s : State) (debts : ℕ → Debt) (id parent : ℕ) (d : Side) (row h : ℕ) → TableOk s → DebtOk s debts → MayOweHeight s debts id parent d row h → Owing (height_stored s row h) debts id (height_debt s parent row (debts id))
+HeightOwes = (s : State) (debts : ℕ → Debt) (id parent : ℕ) (d : Side) (row h : ℕ) → TableOk s → DebtOk s debts
+    → MayOweHeight s debts id parent d row h
+    → Owing (height_stored s row h) debts id (height_debt s parent row (debts id))
 
+-- `pass_up`
 abbrev pub UpOwes : Type 0
-UpOwes = (s : State) (debts : ℕ → Debt) (id parent : ℕ) (d : Side) (row : ℕ) → TableOk s → DebtOk s debts → MayPassUp s (debts id) parent d row → Owing s debts id (aimed s parent (taken row (debts id).list))
+UpOwes = (s : State) (debts : ℕ → Debt) (id parent : ℕ) (d : Side) (row : ℕ) → TableOk s → DebtOk s debts
+    → MayPassUp s (debts id) parent d row
+    → Owing s debts id (aimed s parent (taken row (debts id).list))
 
+-- `aim`
 abbrev pub AimOwes : Type 0
-AimOwes = (s : State) (debts : ℕ → Debt) (id row : ℕ) → TableOk s → DebtOk s debts → MayAim s (debts id) row → Owing s debts id (aimed s row (debts id).list)
+AimOwes = (s : State) (debts : ℕ → Debt) (id row : ℕ) → TableOk s → DebtOk s debts → MayAim s (debts id) row
+    → Owing s debts id (aimed s row (debts id).list)
 
--- K17
+-- `mark_unlinked`
 abbrev pub UnlinkOwes : Type 0
-UnlinkOwes = (s : State) (debts : ℕ → Debt) (id parent : ℕ) (d : Side) (row : ℕ) → TableOk s → DebtOk s debts → MayMarkUnlinked s parent d row
-    → OwesNone s (debts id) ⊎ Aims s (debts id) row ⊎ Aims s (debts id) parent → IsFree debts id parent
+UnlinkOwes = (s : State) (debts : ℕ → Debt) (id parent : ℕ) (d : Side) (row : ℕ) → TableOk s → DebtOk s debts
+    → MayMarkUnlinked s parent d row → OwesNone s (debts id) ⊎ Aims s (debts id) row ⊎ Aims s (debts id) parent
+    → IsFree debts id parent
     → Owing (unlinked_marked s parent d row) debts id (aimed s parent (noted s parent (debts id).list))
 
--- K16
+-- `link_copy`
 abbrev pub CopyOwes : Type 0
-CopyOwes = (s : State) (debts : ℕ → Debt) (parent : ℕ) (d : Side) (row copy : ℕ) → TableOk s → DebtOk s debts → MayLinkCopy s parent d row copy → DebtOk (copy_linked s parent d row copy) debts
+CopyOwes = (s : State) (debts : ℕ → Debt) (parent : ℕ) (d : Side) (row copy : ℕ) → TableOk s → DebtOk s debts
+    → MayLinkCopy s parent d row copy
+    → DebtOk (copy_linked s parent d row copy) debts
 
--- K14
+-- `cut`, where no pass owes
 abbrev pub CutOwes : Type 0
 CutOwes = (s : State) (debts : ℕ → Debt) → DebtOk s debts → ((j : ℕ) → OwesNone s (debts j)) → DebtOk (cut s) debts
 
+-- `mark_shrinking`
 abbrev pub ShrinkOwes : Type 0
-ShrinkOwes = (s : State) (debts : ℕ → Debt) (id parent : ℕ) (p : Side) (row : ℕ) (d : Side) (raised key : ℕ) → TableOk s → DebtOk s debts → MayMarkShrinking s row → MayOweTurn s debts id parent p row d raised key
+ShrinkOwes = (s : State) (debts : ℕ → Debt) (id parent : ℕ) (p : Side) (row : ℕ) (d : Side) (raised key : ℕ)
+    → TableOk s → DebtOk s debts → MayMarkShrinking s row → MayOweTurn s debts id parent p row d raised key
     → Owing (shrinking_marked s row) debts id (shrink_debt (shrinking_marked s row) row key (debts id))
 
+-- `link_parent`
 abbrev pub RaiseOwes : Type 0
-RaiseOwes = (s : State) (debts : ℕ → Debt) (id parent : ℕ) (p : Side) (row : ℕ) (d : Side) (raised : ℕ) → TableOk s → DebtOk s debts → MayLinkParent s parent p row d raised → MayOweRaise s debts id parent row raised
+RaiseOwes = (s : State) (debts : ℕ → Debt) (id parent : ℕ) (p : Side) (row : ℕ) (d : Side) (raised : ℕ) → TableOk s
+    → DebtOk s debts → MayLinkParent s parent p row d raised → MayOweRaise s debts id parent row raised
     → Owing (parent_linked s parent p row d raised) debts id (raise_debt s parent row raised (debts id))
 
+-- `clear_shrinking`
 abbrev pub ClearOwes : Type 0
-ClearOwes = (s : State) (debts : ℕ → Debt) (id row : ℕ) → TableOk s → DebtOk s debts → MayClearShrinking s row → Owes s (debts id) row → IsFree debts id row
+ClearOwes = (s : State) (debts : ℕ → Debt) (id row : ℕ) → TableOk s → DebtOk s debts → MayClearShrinking s row
+    → Owes s (debts id) row → IsFree debts id row
     → Owing (shrinking_cleared s row) debts id (clear_debt (shrinking_cleared s row) row (debts id))
 
--- K3
+-- and `store_own`
 abbrev pub OwnSilent : Type 0
-OwnSilent = (s : State) (row k b h v : ℕ) (l : Side → ℕ) → TableOk s → MayStoreOwn s row → IsSilent s (own_stored s row k b h v l)
+OwnSilent = (s : State) (row k b h v : ℕ) (l : Side → ℕ) → TableOk s → MayStoreOwn s row
+    → IsSilent s (own_stored s row k b h v l)
 
--- K19 and K22 make it, and a step of another pass keeps it
+-- after `mark_shrinking` the pass is lowering the row, and owes it
 abbrev pub ShrinkTurns : Type 0
-ShrinkTurns = (s : State) (debts : ℕ → Debt) (id parent : ℕ) (p : Side) (row : ℕ) (d : Side) (raised key : ℕ) → TableOk s → MayOweTurn s debts id parent p row d raised key
+ShrinkTurns = (s : State) (debts : ℕ → Debt) (id parent : ℕ) (p : Side) (row : ℕ) (d : Side) (raised key : ℕ)
+    → TableOk s → MayOweTurn s debts id parent p row d raised key
     → Turning (shrinking_marked s row) (shrink_debt (shrinking_marked s row) row key (debts id)) row × AimsAtTurn (shrinking_marked s row) (shrink_debt (shrinking_marked s row) row key (debts id)) row raised
 
+-- after `link_parent` as well
 abbrev pub RaiseTurns : Type 0
-RaiseTurns = (s : State) (parent : ℕ) (p : Side) (row : ℕ) (d : Side) (raised : ℕ) (v : Debt) → row ≢ 0 → Turning (parent_linked s parent p row d raised) (raise_debt s parent row raised v) row
+RaiseTurns = (s : State) (parent : ℕ) (p : Side) (row : ℕ) (d : Side) (raised : ℕ) (v : Debt) → row ≢ 0
+    → Turning (parent_linked s parent p row d raised) (raise_debt s parent row raised v) row
 
+-- a step of another pass leaves it so
 abbrev pub TurnKept : Type 0
-TurnKept = (s s' : State) (v : Debt) (row raised : ℕ) → Evolves s s' → In row s.linked → In raised s.linked → s'.stamp row ≡ s.stamp row → Turning s v row × AimsAtTurn s v row raised → Turning s' v row × AimsAtTurn s' v row raised
+TurnKept = (s s' : State) (v : Debt) (row raised : ℕ) → Evolves s s' → In row s.linked → In raised s.linked
+    → s'.stamp row ≡ s.stamp row → Turning s v row × AimsAtTurn s v row raised
+    → Turning s' v row × AimsAtTurn s' v row raised
 
--- an opened table owes nothing
+-- a table that was just opened
 abbrev pub OpensOwes : Type 0
 OpensOwes = DebtOk opened (λ j. no_debt)

@@ -10,29 +10,42 @@ use Rattle.snap_rule.specs.State.{In, State}
 use Rattle.snap_rule.specs.Tree.{OnWay}
 use Rattle.snap_rule.specs.declared.debt.Debt.{Debt}
 
--- one law for the debts at a step
+-- one law for a step: where the stepping pass accounts for the new tree, the debts are right afterwards
 abbrev pub DebtSteps : Type 0
-DebtSteps = (s s' : State) (debts debts' : ℕ → Debt) (id : ℕ) → ((j : ℕ) → j ≢ id → debts' j ≡ debts j) → DebtOk s debts → DebtStep s s' debts id (debts' id) → DebtOk s' debts'
+DebtSteps = (s s' : State) (debts debts' : ℕ → Debt) (id : ℕ) → ((j : ℕ) → j ≢ id → debts' j ≡ debts j)
+    → DebtOk s debts → DebtStep s s' debts id (debts' id)
+    → DebtOk s' debts'
 
+-- a row that a pass holds is lowered by no other
 abbrev pub FreeKnown : Type 0
 FreeKnown = (s : State) (debts : ℕ → Debt) (id n : ℕ) → Turns s debts → s.lock n ≡ id + 1 → IsFree debts id n
 
--- unmarked live rows stay on their paths at every step that evolves the table and is no cut
+-- a live row without a mark that keeps its stamp stays live and on its paths, at every step but a cut
 abbrev pub UnmarkedStays : Type 0
-UnmarkedStays = (s s' : State) (n : ℕ) → TableOk s → Evolves s s' → s'.epoch ≡ s.epoch → IsLive s n → IsUnmarked (s.stamp n) → s'.stamp n ≡ s.stamp n → IsLive s' n × ((k : ℕ) → OnWay s.tree k n → OnWay s'.tree k n)
+UnmarkedStays = (s s' : State) (n : ℕ) → TableOk s → Evolves s s' → s'.epoch ≡ s.epoch → IsLive s n
+    → IsUnmarked (s.stamp n) → s'.stamp n ≡ s.stamp n
+    → IsLive s' n × ((k : ℕ) → OnWay s.tree k n → OnWay s'.tree k n)
 
--- K19 to K23 keep that the row that a pass turns is locked by it; the other kinds leave `turning` as it is or set none
+-- each pass holds the row that it is lowering, after a step too
 abbrev pub TurnsKept : Type 0
-TurnsKept = (s s' : State) (debts debts' : ℕ → Debt) (id : ℕ) → ((j : ℕ) → j ≢ id → debts' j ≡ debts j) → ((j n : ℕ) → j ≢ id → (debts j).turning ≡ Some n → s'.lock n ≡ s.lock n) → ((n : ℕ) → (debts' id).turning ≡ Some n → s'.lock n ≡ id + 1) → Turns s debts → Turns s' debts'
+TurnsKept = (s s' : State) (debts debts' : ℕ → Debt) (id : ℕ) → ((j : ℕ) → j ≢ id → debts' j ≡ debts j)
+    → ((j n : ℕ) → j ≢ id → (debts j).turning ≡ Some n → s'.lock n ≡ s.lock n)
+    → ((n : ℕ) → (debts' id).turning ≡ Some n → s'.lock n ≡ id + 1) → Turns s debts
+    → Turns s' debts'
 
--- the debts are spoken of only while there is room, so a law under room before the step is enough
+-- debts are spoken of only while there is room, so a law under room before the step is enough
 abbrev pub UnderRoom : Type 0
-UnderRoom = (s s' : State) (next next' rows : ℕ) (debts debts' : ℕ → Debt) → Evolves s s' → next ≤ next' → (HasRoom s next rows → DebtOk s debts → DebtOk s' debts') → (HasRoom s next rows → DebtOk s debts) → HasRoom s' next' rows → DebtOk s' debts'
+UnderRoom = (s s' : State) (next next' rows : ℕ) (debts debts' : ℕ → Debt) → Evolves s s' → next ≤ next'
+    → (HasRoom s next rows → DebtOk s debts → DebtOk s' debts') → (HasRoom s next rows → DebtOk s debts)
+    → HasRoom s' next' rows
+    → DebtOk s' debts'
 
 -- a pass without a to-do key owes nothing
 abbrev pub KeylessOwes : Type 0
 KeylessOwes = (s : State) (debts : ℕ → Debt) (j : ℕ) → DebtOk s debts → (debts j).to_do ≡ None → OwesNone s (debts j)
 
--- what a step leaves to another pass keeps that pass's debt: its owed rows stay live and on its path
+-- what a step leaves to another pass keeps that pass's debt: the rows that it owes stay live and on its path
 abbrev pub FitsKept : Type 0
-FitsKept = (s s' : State) (v u : Debt) → ((m : ℕ) → In m s.linked → In m s'.linked × (s.stamp m ≤ s'.stamp m)) → DebtEvolves s s' v → ((n : ℕ) → v.turning ≡ Some n → ¬ Owes s u n) → DebtFits s u → DebtFits s' u
+FitsKept = (s s' : State) (v u : Debt) → ((m : ℕ) → In m s.linked → In m s'.linked × (s.stamp m ≤ s'.stamp m))
+    → DebtEvolves s s' v → ((n : ℕ) → v.turning ≡ Some n → ¬ Owes s u n) → DebtFits s u
+    → DebtFits s' u

@@ -12,11 +12,13 @@ use Rattle.snap_rule.specs.Rule.{TableOk}
 use Rattle.snap_rule.specs.State.{State}
 use Rattle.snap_rule.specs.Views.{Holds, LeavesOthers, View, ViewOk, at_seat, with_seat}
 
+-- one law for a whole step: the stepping pass shows its own new view, and what it leaves to the others keeps theirs
 abbrev pub StepHolds : Type 0
-StepHolds = (s s' : State) (views : List View) (id : ℕ) (v w : View) → Holds s views → at_seat views id ≡ Some v → w.who ≡ v.who
-    → Evolves s s' → TableOk s' → LeavesOthers s s' v.who → ViewOk s' w → Holds s' (with_seat views id w)
+StepHolds = (s s' : State) (views : List View) (id : ℕ) (v w : View) → Holds s views → at_seat views id ≡ Some v
+    → w.who ≡ v.who → Evolves s s' → TableOk s' → LeavesOthers s s' v.who → ViewOk s' w
+    → Holds s' (with_seat views id w)
 
--- a step whose pass holds the rows that it changes leaves the rows alone that other passes hold
+-- a step of pass `who` that holds the rows which it changes leaves alone what other passes hold
 pub record KindsLeave (s : State) (who : ℕ) : Type 0 where
   pub own : (row k b h v : ℕ) (l : Side → ℕ) → MayStoreOwn s row → LeavesOthers s (own_stored s row k b h v l) who
   pub take : (row x : ℕ) → s.lock row ≡ 0 → LeavesOthers s (lock_stored s row x) who
@@ -35,5 +37,6 @@ pub record KindsLeave (s : State) (who : ℕ) : Type 0 where
   pub height : (row x : ℕ) → LeavesOthers s (height_stored s row x) who
   pub absent : (e : Entry) → LeavesOthers s (absent_confirmed s e) who
 
+-- and it does
 abbrev pub HeldLeave : Type 0
 HeldLeave = (s : State) (who : ℕ) → TableOk s → KindsLeave s who
