@@ -1,6 +1,6 @@
 -- A row's stamp as a number: four times its count, and its marks in the last two bits. So a stamp only grows
 -- as its row goes through its life: a count, the same count shrinking, the next count, and at last unlinked.
-use Rattle.std.specs.Prelude.{ℕ, ◌≡◌, ◌+◌, ◌*◌, ◌/◌, ◌%◌, ◌==◌, Bool, true, false, if◌then◌else◌}
+use Rattle.std.specs.Prelude.{ℕ, ◌≡◌, ◌+◌, ◌*◌, ◌/◌, ◌%◌, ◌==◌, Bool, if◌then◌else◌}
 
 -- how many rotations have lowered the row
 abbrev pub count_of : ℕ → ℕ

@@ -26,6 +26,7 @@ impl RowNo {
         RowNo(number)
     }
 
+    /// Its number.
     pub fn number(self) -> u32
         ensures { result ≡ self }
     {
@@ -37,5 +38,17 @@ impl RowNo {
         ensures { IsTrue result ↔ (self ≡ 0) }
     {
         self.0 == 0
+    }
+}
+
+#[cfg(test)]
+mod tests {
+    use super::*;
+
+    #[test]
+    fn the_holder_is_row_zero(rt: HostRuntime) {
+        assert!(rt; RowNo::HOLDER.is_none());
+        assert!(rt; !RowNo::of(3).is_none());
+        assert_eq!(rt; RowNo::of(3).number(), 3);
     }
 }
