@@ -1,78 +1,80 @@
+//! Changes in progress: their steps, and what steps of other passes leave of them.
+
 ghost use Rattle.snap_rule.specs.Laws.Changes.{ClearDoing, DoingKept, LiftDoing, LowerDoing, OthersLeave, RaiseDoing, ShrinkDoing, SpliceDoing, UnlinkDoing};
 
-use snap_stamp::Side;
+use snap_stamp::{RowNo, Side};
 
 /// The change that a pass is in, by its last step. An unlinking has two steps, a rotation five.
 pub enum Doing {
     Nothing,
     /// The row has the unlinked mark, and `only` is its one child or 0.
     Unlinked {
-        parent: u64,
+        parent: RowNo,
         side: Side,
-        row: u64,
-        only: u64,
+        row: RowNo,
+        only: RowNo,
     },
     /// The row has the shrinking mark; its child on `side` is to be raised.
     Shrunk {
-        parent: u64,
+        parent: RowNo,
         parent_side: Side,
-        row: u64,
+        row: RowNo,
         side: Side,
-        raised: u64,
+        raised: RowNo,
     },
     /// The row's link leads to the subtree between the two.
     Lowered {
-        parent: u64,
+        parent: RowNo,
         parent_side: Side,
-        row: u64,
+        row: RowNo,
         side: Side,
-        raised: u64,
+        raised: RowNo,
     },
     /// The raised row's link leads to the row.
     Lifted {
-        parent: u64,
+        parent: RowNo,
         parent_side: Side,
-        row: u64,
+        row: RowNo,
         side: Side,
-        raised: u64,
+        raised: RowNo,
     },
     /// The parent's link leads to the raised row; the shrinking mark is left to be cleared.
     Turned {
-        row: u64,
+        row: RowNo,
     },
 }
 
-/// After `mark_unlinked`.
+/// What a pass knows after `mark_unlinked`.
 pub fn unlink_doing()
     ensures { UnlinkDoing }
 {}
 
-/// What `splice` needs then.
+/// It may `splice` then.
 pub fn splice_doing()
     ensures { SpliceDoing }
 {}
 
-/// After `mark_shrinking`.
+/// What a pass knows after `mark_shrinking`.
 pub fn shrink_doing()
     ensures { ShrinkDoing }
 {}
 
-/// What `link_lowered` needs then, and what holds after it.
+/// It may `link_lowered` then, and what it knows afterwards.
 pub fn lower_doing()
     ensures { LowerDoing }
 {}
 
-/// The same of `link_raised`.
+/// It may `link_raised` then, and what it knows afterwards.
 pub fn lift_doing()
     ensures { LiftDoing }
 {}
 
-/// The same of `link_parent`.
+/// It may `link_parent` then, and what it knows afterwards.
 pub fn raise_doing()
     ensures { RaiseDoing }
 {}
 
-/// What `clear_shrinking` needs at last.
+/// It may `clear_shrinking` at last.
 pub fn clear_doing()
     ensures { ClearDoing }
 {}

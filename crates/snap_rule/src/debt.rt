@@ -1,19 +1,22 @@
+//! Repair debt: what a pass owes, and what holds of the debts of all passes.
+
 ghost use Rattle.snap_rule.specs.Laws.Debts.{DebtSteps, FitsKept, FreeKnown, KeylessOwes, TurnsKept, UnderRoom, UnmarkedStays};
 
+use snap_stamp::{Key, RowNo, Stamp};
 use std::collections::LinkedList;
 
 /// A row on a list, with the stamp that it had then.
 pub struct Mark {
-    pub row: u64,
-    pub stamp: u64,
+    pub row: RowNo,
+    pub stamp: Stamp,
 }
 
 /// What a pass in a write owes to the balance of the tree: the key on whose search path its rows stand, the rows, and
 /// the row that it has marked as shrinking and not yet cleared.
 pub struct Debt {
-    pub to_do: Option<u64>,
+    pub to_do: Option<Key>,
     pub list: LinkedList<Mark>,
-    pub turning: Option<u64>,
+    pub turning: Option<RowNo>,
 }
 
 /// One law for the debts at a step: the stepping pass accounts for each row of the new tree.

@@ -1,3 +1,5 @@
+//! Heights that were loaded under a lock.
+
 ghost use Rattle.snap_rule.specs.Laws.Heights.{ChildLoaded, HeightsApart, HeightsHeight, HeldWords, LoadedKept, LoadedSettled};
 
 /// A step that leaves a row alone and stores no height keeps the heights below the row.

@@ -1,3 +1,5 @@
+//! What loaded words tell of the tree, and what a clone reads.
+
 ghost use Rattle.snap_rule.specs.Laws.Knowledge.{AbsentBelow, AbsentHere, CutImage, ImageKept, LiveKnown};
 
 /// Birth and stamp, loaded in a write, make a row live.

@@ -3,18 +3,18 @@
 //! a function with an empty body; its statement stands in `specs/`.
 #![tactic(auto)]
 
-mod change;
-mod counterexamples;
-mod debt;
-mod heights;
-mod kinds;
-mod knowledge;
-mod owing;
-mod owing_passes;
-mod passes;
-mod quiescence;
-mod reader;
-mod settled;
+pub mod change;
+pub mod counterexamples;
+pub mod debt;
+pub mod heights;
+pub mod kinds;
+pub mod knowledge;
+pub mod owing;
+pub mod owing_passes;
+pub mod passes;
+pub mod quiescence;
+pub mod reader;
+pub mod settled;
 
 pub use change::Doing;
 pub use debt::{Debt, Mark};

@@ -1,3 +1,5 @@
+//! Each kind of step keeps the debts beside the views.
+
 ghost use Rattle.snap_rule.specs.Laws.DebtPasses.{AimWhole, ClearWhole, CopyWhole, DebtStepHolds, HeightWhole, LeafWhole, LeaveWhole, RaiseWhole, ShrinkWhole, SilentWhole, StoreWhole, TurnsKnown, UnlinkWhole, UpWhole};
 
 /// One law for the debts beside the views.
@@ -20,12 +22,12 @@ pub fn shrink_whole()
     ensures { ShrinkWhole }
 {}
 
-/// `link_parent`; what it needs of the debt is in the view.
+/// `link_parent`: what it needs of the debt is in the view.
 pub fn raise_whole()
     ensures { RaiseWhole }
 {}
 
-/// `clear_shrinking`; what it needs of the debt is in the view.
+/// `clear_shrinking`: what it needs of the debt is in the view.
 pub fn clear_whole()
     ensures { ClearWhole }
 {}
@@ -50,7 +52,7 @@ pub fn height_whole()
     ensures { HeightWhole }
 {}
 
-/// The silent kinds.
+/// A silent step.
 pub fn silent_whole()
     ensures { SilentWhole }
 {}
@@ -65,7 +67,7 @@ pub fn up_whole()
     ensures { UpWhole }
 {}
 
-/// Entering and leaving a write.
+/// A pass enters or leaves a write.
 pub fn leave_whole()
     ensures { LeaveWhole }
 {}

@@ -1,3 +1,5 @@
+//! Whole steps, over the views of all passes.
+
 ghost use Rattle.snap_rule.specs.Laws.Passes.{HeldLeave, StepHolds};
 
 /// A step whose pass holds what it changes leaves alone what others hold.

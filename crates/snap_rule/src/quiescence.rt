@@ -1,11 +1,13 @@
+//! Calls of `try_get`: what they know while no write is entered.
+
 ghost use Rattle.snap_rule.specs.Laws.Quiescence.{CalmBegins, CalmGoesOn, CalmKept, QuietBegins, QuietKept, QuietLoads, TroubleTells};
 
-use snap_stamp::Field;
+use snap_stamp::{Field, Key, RowNo};
 use std::collections::LinkedList;
 
 /// A word of a row that a call loaded.
 pub struct Load {
-    pub row: u64,
+    pub row: RowNo,
     pub field: Field,
     pub found: u64,
 }
@@ -18,9 +20,9 @@ pub enum Trying {
     Since {
         ended: u64,
         loads: LinkedList<Load>,
-        low: u64,
-        high: u64,
-        child: u64,
+        low: Key,
+        high: Key,
+        child: RowNo,
     },
 }
 

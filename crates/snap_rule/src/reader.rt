@@ -1,6 +1,8 @@
+//! Readers: the points of a way, what every step keeps of them, and what each load tells.
+
 ghost use Rattle.snap_rule.specs.Laws.Readers.{KeyDiffers, KeyMatches, LinkAgain, LinkFound, LinkNone, NoneAnswered, NoneConfirmed, PlaceKept, PositionKept, ReaderKept, RowConfirmed, StampLoaded, ValueLoaded, WayStarts};
 
-use snap_stamp::Side;
+use snap_stamp::{Key, RowNo, Side, Stamp};
 
 /// Where a reader stands on its way to a key. It stands at a row whose stamp it loaded, and goes on by the link on
 /// one side. Each load brings it to the next point: the link, the child's stamp, the link again, the row's stamp again,
@@ -8,55 +10,55 @@ use snap_stamp::Side;
 pub enum Point {
     /// At a row, before the load of its link.
     Standing {
-        row: u64,
-        stamp: u64,
+        row: RowNo,
+        stamp: Stamp,
         side: Side,
     },
     /// The link was 0.
     NoLink {
-        row: u64,
-        stamp: u64,
+        row: RowNo,
+        stamp: Stamp,
         side: Side,
     },
     /// The link named a child.
     Linked {
-        row: u64,
-        stamp: u64,
+        row: RowNo,
+        stamp: Stamp,
         side: Side,
-        child: u64,
+        child: RowNo,
     },
     /// The child's stamp had no mark.
     Stamped {
-        row: u64,
-        stamp: u64,
+        row: RowNo,
+        stamp: Stamp,
         side: Side,
-        child: u64,
-        mark: u64,
+        child: RowNo,
+        child_stamp: Stamp,
     },
     /// The link named the same child again.
     Relinked {
-        row: u64,
-        stamp: u64,
-        child: u64,
-        mark: u64,
+        row: RowNo,
+        stamp: Stamp,
+        child: RowNo,
+        child_stamp: Stamp,
     },
     /// The row had its stamp still: the way leads to the child.
     Confirmed {
-        child: u64,
-        mark: u64,
+        child: RowNo,
+        child_stamp: Stamp,
     },
     /// The row had its stamp still, after a link of 0: the way ends.
     ConfirmedNone,
     /// The child has the key.
     Matched {
-        child: u64,
+        child: RowNo,
     },
 }
 
 /// Whether a pass is on a way to a key.
 pub enum Reading {
     Resting,
-    On { key: u64, point: Point },
+    On { key: Key, point: Point },
 }
 
 /// A row at which a search may stand stays one while its stamp stays.
@@ -64,7 +66,7 @@ pub fn position_kept()
     ensures { PositionKept }
 {}
 
-/// A step that evolves the table keeps what is said of a reader at each stage.
+/// A step that evolves the table keeps what is known at each point.
 pub fn reader_kept()
     ensures { ReaderKept }
 {}
@@ -79,7 +81,7 @@ pub fn way_starts()
     ensures { WayStarts }
 {}
 
-/// A link that is loaded as 0 brings a reader to the end of its way.
+/// A link that is loaded as 0 tells that the key was absent, if the row has its stamp still.
 pub fn link_none()
     ensures { LinkNone }
 {}
@@ -89,12 +91,12 @@ pub fn link_found()
     ensures { LinkFound }
 {}
 
-/// The child's stamp, without a mark.
+/// The child's stamp, which has no mark.
 pub fn stamp_loaded()
     ensures { StampLoaded }
 {}
 
-/// The link once more, with the same child.
+/// The link once more, naming the same child: the way leads to it, if the row has its stamp still.
 pub fn link_again()
     ensures { LinkAgain }
 {}
@@ -109,12 +111,12 @@ pub fn row_confirmed()
     ensures { RowConfirmed }
 {}
 
-/// A key of the child that is another: the reader stands at the child.
+/// The child has another key: the reader stands at it.
 pub fn key_differs()
     ensures { KeyDiffers }
 {}
 
-/// The key that is sought.
+/// The child has the key.
 pub fn key_matches()
     ensures { KeyMatches }
 {}
@@ -124,7 +126,7 @@ pub fn value_loaded()
     ensures { ValueLoaded }
 {}
 
-/// None is what it had.
+/// None is what the map had at some moment, where the way has ended.
 pub fn none_answered()
     ensures { NoneAnswered }
 {}

@@ -1,3 +1,5 @@
+//! Settled rows and trees, and room to repair.
+
 ghost use Rattle.snap_rule.specs.Laws.Settled.{AllSettled, CutCause, QuietShallow, ReasonLasts, RoomBefore, SettledShallow, SharedSettled, StampFound};
 
 /// Room after a step gives room before it.

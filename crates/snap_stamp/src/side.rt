@@ -1,6 +1,8 @@
 ghost use Rattle.std.specs.Prelude.{◌≡◌, ◌≢◌};
 ghost use Rattle.snap_stamp.specs.Sides.{other, Toward};
 
+use crate::Key;
+
 /// A side of a row: smaller keys stand on its left, greater ones on its right.
 #[derive(Clone, Copy, Debug, PartialEq, Eq)]
 pub enum Side {
@@ -20,7 +22,7 @@ impl Side {
     }
 
     /// The side of a row with this key on which another key is to be looked for.
-    pub fn toward(row_key: u64, key: u64) -> Side
+    pub fn toward(row_key: Key, key: Key) -> Side
         requires { row_key ≢ key }
         ensures { Toward result key row_key }
     {
