@@ -7,6 +7,7 @@ pub mod Updates
 pub mod Evolving
 pub mod Parts
 pub mod Table
+pub mod Pairs
 pub mod Calm
 pub mod Opened
 pub mod InChange

@@ -27,15 +27,15 @@ filtered_in f (p ∷ m) k h = let i = filtered_in f m k h in dite (ℕ_discrete 
     either true q i = rw q i
     either false q i = rw q i
 
-abbrev or_else : Option ℕ → Option ℕ → Option ℕ
+abbrev pub or_else : Option ℕ → Option ℕ → Option ℕ
 or_else None o = o
 or_else (Some v) o = Some v
 
-or_none : (o : Option ℕ) → or_else o None ≡ o
+pub or_none : (o : Option ℕ) → or_else o None ≡ o
 or_none None = refl
 or_none (Some v) = refl
 
-at_append : (l r : Pairs) (k : ℕ) → at (l ++ r) k ≡ or_else (at l k) (at r k)
+pub at_append : (l r : Pairs) (k : ℕ) → at (l ++ r) k ≡ or_else (at l k) (at r k)
 at_append [] r k = refl
 at_append (p ∷ l) r k = either (eqb p.0 k) (at_append l r k)
   where

@@ -1,6 +1,7 @@
 -- What loaded words tell: which rows are live, which keys are absent, and what a clone reads.
 use Rattle.std.specs.Prelude.{None, ℕ, ◌^◌, ◌≡◌, ◌⊎◌}
-use Rattle.snap_model.specs.History.{told}
+use Rattle.snap_model.specs.History.{after, told}
+use Rattle.snap_model.specs.SortedMap.{at}
 use Rattle.snap_stamp.specs.Stamps.{IsUnlinked}
 use Rattle.snap_stamp.specs.declared.side.Side.{Side}
 use Rattle.snap_stamp.specs.declared.side.Side.TheVariants.{Right}
@@ -10,12 +11,20 @@ use Rattle.snap_rule.specs.Position.{Faces}
 use Rattle.snap_rule.specs.Rule.{IsLive, TableOk}
 use Rattle.snap_rule.specs.State.{In, IsImage, State}
 use Rattle.snap_rule.specs.State.Change.{plain}
-use Rattle.snap_rule.specs.Tree.{Between, OnWay, Tree, find}
+use Rattle.snap_rule.specs.Tree.{Between, OnWay, Tree, find, pairs}
 
 -- a linked row whose birth is the epoch, and that has no unlinked mark, is live
 abbrev pub LiveKnown : Type 0
 LiveKnown = (s : State) (n : ℕ) → TableOk s → In n s.linked → s.birth n ≡ s.epoch → ¬ IsUnlinked (s.stamp n)
     → IsLive s n
+
+-- a search through an ordered tree finds what its pairs have
+abbrev pub FindAt : Type 0
+FindAt = (t : Tree) (low high k : ℕ) → Between low high t → find t k ≡ at (pairs t) k
+
+-- the pairs of the tree are the map after the history
+abbrev pub TreePairs : Type 0
+TreePairs = (s : State) → TableOk s → pairs s.tree ≡ after s.history
 
 -- what a cut shares is the tree, read from its root; it is ordered, and tells what the map has
 abbrev pub CutImage : Type 0
