@@ -8,6 +8,7 @@ pub mod Evolving
 pub mod Parts
 pub mod Table
 pub mod Pairs
+pub mod Marks
 pub mod Calm
 pub mod Opened
 pub mod InChange

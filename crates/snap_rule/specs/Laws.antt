@@ -2,6 +2,7 @@
 pub mod Readers
 pub mod Quiescence
 pub mod Kinds
+pub mod Marks
 pub mod Knowledge
 pub mod Changes
 pub mod Passes

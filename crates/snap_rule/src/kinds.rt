@@ -1,5 +1,6 @@
 //! Each kind of step evolves the table and keeps the parts of the rule that speak of no pass.
 
+ghost use Rattle.snap_rule.specs.Laws.Marks.{MarksKept};
 ghost use Rattle.snap_rule.specs.Laws.Kinds.{AbsentKeeps, ClearKeeps, CopyKeeps, CutKeeps, HeaderKeeps, HeightKeeps, LeafKeeps, LiftKeeps, LockKeeps, LowerKeeps, Opens, OwnKeeps, RaiseKeeps, ShrinkKeeps, SpliceKeeps, StoreKeeps, UnlinkKeeps};
 
 /// A table that was just opened meets the rule.
@@ -85,4 +86,9 @@ pub fn clear_keeps()
 /// `store_height` keeps the rule.
 pub fn height_keeps()
     ensures { HeightKeeps }
+{}
+
+/// No kind but `mark_shrinking` marks a row of the tree, and `clear_shrinking` takes its mark away.
+pub fn marks_kept()
+    ensures { MarksKept }
 {}

@@ -111,7 +111,7 @@ module _ (s : State) (ok : TreeOk s) (links_ok : LinksOk s) (parent : ℕ) (d : 
   is_top z = sym ok.root ∙ ap₂ s.links z.0 z.1 ∙ child
 
 -- a row leaves the tree
-without_gone : (s : State) (l : ℕ → Side → ℕ) (r low high : ℕ) (t : Tree) → Between low high t → Reads s l t → Stands r (without r t) → ⊥
+pub without_gone : (s : State) (l : ℕ → Side → ℕ) (r low high : ℕ) (t : Tree) → Between low high t → Reads s l t → Stands r (without r t) → ⊥
 without_gone s l r low high empty o v h = h
 without_gone s l r low high (node m a b) o v h = dite (ℕ_discrete m.row r)
     (λ e. let g : eqb m.row r ≡ true = eq-eqb m.row r e in here e a b (λ i. let k = left_key s l low high m a b r o v i in let q = ap s.key e in omega arith) (λ i. let k = right_key s l low high m a b r o v i in let q = ap s.key e in omega arith) (rw g at h))
