@@ -1,6 +1,6 @@
 //! Repair debt: what a pass owes, and what holds of the debts of all passes.
 
-ghost use Rattle.snap_rule.specs.Laws.Debts.{DebtSteps, FitsKept, FreeKnown, KeylessOwes, TurnsKept, UnderRoom, UnmarkedStays};
+ghost use Rattle.snap_rule.specs.Laws.Debts.{DebtDoingKept, DebtSteps, FitsKept, FreeKnown, KeylessOwes, TurnedConcerns, TurnsKept, UnderRoom, UnmarkedStays};
 
 use snap_stamp::{Key, RowNo, Stamp};
 use std::collections::LinkedList;
@@ -52,4 +52,14 @@ pub fn keyless_owes()
 /// Another pass's step keeps a debt: the rows that are owed stay live and on their path.
 pub fn fits_kept()
     ensures { FitsKept }
+{}
+
+/// A pass is lowering only a row of its change.
+pub fn turned_concerns()
+    ensures { TurnedConcerns }
+{}
+
+/// A step of another pass leaves a pass in a change what it knows of its debt.
+pub fn debt_doing_kept()
+    ensures { DebtDoingKept }
 {}

@@ -21,8 +21,10 @@ use Rattle.snap_rule.specs.declared.debt.Mark.{Mark}
 use Rattle.snap_rule.specs.declared.debt.Debt.{Debt}
 use Rattle.snap_rule.specs.Debt.Step.{IsFree, IsSilent, Owing}
 use Rattle.snap_rule.specs.Room.{HasRoom}
-use Rattle.snap_rule.specs.Debt.Kinds.{MayAim, MayPassUp, leaf_debt, MayOweHeight, height_debt, Turning, AimsAtTurn, stored_debt, shrink_debt, raise_debt, clear_debt}
-use Rattle.snap_rule.specs.Debt.Views.{DebtDoing, DebtHolds, Stepping, ShrinkAims}
+use Rattle.snap_rule.specs.Debt.Kinds.{MayAim, MayPassUp, leaf_debt, MayOweHeight, height_debt, stored_debt, shrink_debt, raise_debt, clear_debt}
+use Rattle.snap_rule.specs.Debt.Changes.{Turning, AimsAtTurn}
+use Rattle.snap_rule.specs.Debt.Views.{DebtHolds, Stepping, ShrinkAims}
+use Rattle.snap_rule.specs.Debt.Changes.{DebtDoing}
 use Rattle.snap_rule.proofs.Moments.{begins_refl}
 use Rattle.snap_rule.proofs.Updates.{changed_same, changed_other}
 use Rattle.snap_rule.proofs.Evolving.Telling.{same_row, copy_evolves, unlink_evolves, store_evolves, shrink_evolves, raise_evolves}

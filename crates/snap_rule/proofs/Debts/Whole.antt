@@ -2,21 +2,17 @@
 use Rattle.std.proofs.Common.{◌≡◌, ◌≢◌, ℕ, zero, suc, ◌+◌, ◌≤◌, ◌⊎◌, inl, inr, List, [], ◌∷◌, Some, None, refl, ap, sym, ◌∙◌, subst, arith}
 use native.Mathlib.Decide.{ℕ_discrete}
 use mathlib.Core.Logic.{dite}
-use Rattle.snap_rule.specs.State.{State, In}
+use Rattle.snap_rule.specs.State.{State}
 use Rattle.snap_rule.specs.Evolves.{Evolves}
-use Rattle.snap_rule.specs.Rule.{IsLive, TableOk}
-use Rattle.snap_rule.specs.declared.change.Doing.{Doing}
-use Rattle.snap_rule.specs.Doing.{DoingOk, Concerns}
-use Rattle.snap_rule.specs.declared.change.Doing.TheVariants.{Nothing, Unlinked, Shrunk, Lowered, Lifted, Turned}
 use Rattle.snap_rule.specs.Views.{View, at_seat, with_seat, Holds, LeavesOthers}
 use Rattle.snap_rule.specs.declared.debt.Debt.{Debt}
-use Rattle.snap_rule.specs.Debt.{no_debt, IsListed, DebtOk, Turns}
+use Rattle.snap_rule.specs.Debt.{no_debt, DebtOk, Turns}
 use Rattle.snap_rule.specs.Room.{HasRoom}
-use Rattle.snap_rule.specs.Debt.Kinds.{Turning}
-use Rattle.snap_rule.specs.Debt.Views.{DebtDoing, DebtHolds}
+use Rattle.snap_rule.specs.Debt.Views.{DebtHolds}
+use Rattle.snap_rule.specs.Debt.Changes.{DebtDoing}
 use Rattle.snap_rule.proofs.WholeSteps.{seat_back}
 use Rattle.snap_rule.proofs.Debts.Room.{room_before}
-use Rattle.snap_rule.proofs.Debts.Turning.{turn_kept}
+use Rattle.snap_rule.proofs.Debts.Turning.{turned_row, debt_doing_kept}
 
 seat_there : (views : List View) (id : ℕ) (v w : View) → at_seat views id ≡ Some v → at_seat (with_seat views id w) id ≡ Some w
 seat_there [] id v w e = cc (e)
@@ -47,21 +43,6 @@ search_views (x ∷ xs) k = dite (ℕ_discrete x.who k)
     both y g zero u e q = let f : x ≡ u = cc e in y (ap (λ (r : View). r.who) f ∙ q)
     both y g (suc j) u e q = g j u e q
 
-same_row : (v : Debt) (row n : ℕ) → v.turning ≡ Some row → v.turning ≡ Some n → n ≡ row
-same_row v row n p q = go (sym q ∙ p)
-  where
-    go : Some n ≡ Some row → n ≡ row
-    go e = cc e
-
--- the row that a pass turns is a row of its change
-turned_row : (s : State) (g : Doing) (v : Debt) (n : ℕ) → DebtDoing s g v → v.turning ≡ Some n → Concerns g n
-turned_row s Nothing v n h t = cc (h, t)
-turned_row s (Unlinked parent d row only) v n h t = cc (h, t)
-turned_row s (Shrunk parent p row d raised) v n h t = inr (inl (same_row v row n h.0.turning t))
-turned_row s (Lowered parent p row d raised) v n h t = inr (inl (same_row v row n h.0.turning t))
-turned_row s (Lifted parent p row d raised) v n h t = inr (inl (same_row v row n h.0.turning t))
-turned_row s (Turned row) v n h t = same_row v row n h.turning t
-
 pub turns_known : (s : State) (views : List View) (debts : ℕ → Debt) (next rows : ℕ) → Holds s views → DebtHolds s views debts next rows → Turns s debts
 turns_known s views debts next rows ok debt j n t = elim (search_views views j) [
   | inl f ↦ (let u = f.view in
@@ -72,22 +53,6 @@ turns_known s views debts next rows ok debt j n t = elim (search_views views j) 
   where
     none : debts j ≡ no_debt → s.lock n ≡ j + 1
     none e = let q : None ≡ Some n = sym (ap (λ (v : Debt). v.turning) e) ∙ t in cc q
-
--- another pass's step keeps it
-module _ (s s' : State) (ok : TableOk s) (ev : Evolves s s') where
-  linked_live : (n : ℕ) → IsLive s n → In n s.linked
-  linked_live n l = (ok.tree.rows n l.stands).0
-
-  still : (v : Debt) (row : ℕ) → s'.stamp row ≡ s.stamp row → Turning s v row → Turning s' v row
-  still v row e t = record { turning = t.turning; owes = subst (λ (x : ℕ). IsListed row x v.list) (sym e) t.owes }
-
-  kept : (g : Doing) (v : Debt) → DoingOk s g → ((n : ℕ) → In n s.linked → Concerns g n → s'.stamp n ≡ s.stamp n) → DebtDoing s g v → DebtDoing s' g v
-  kept Nothing v d f h = h
-  kept (Unlinked parent x row only) v d f h = h
-  kept (Shrunk parent p row x raised) v d f h = let r = linked_live row d.turn.live in turn_kept s s' v row raised ev r (linked_live raised d.turn.raised_live) (f row r (inr (inl refl))) h
-  kept (Lowered parent p row x raised) v d f h = let r = linked_live row d.turn.live in turn_kept s s' v row raised ev r (linked_live raised d.turn.raised_live) (f row r (inr (inl refl))) h
-  kept (Lifted parent p row x raised) v d f h = let r = linked_live row d.turn.live in turn_kept s s' v row raised ev r (linked_live raised d.turn.raised_live) (f row r (inr (inl refl))) h
-  kept (Turned row) v d f h = still v row (f row (linked_live row d.live) refl) h
 
 pub debt_holds : (s s' : State) (views : List View) (id : ℕ) (v w : View) (debts debts' : ℕ → Debt) (next next' rows : ℕ) → Holds s views → DebtHolds s views debts next rows → at_seat views id ≡ Some v → w.who ≡ v.who
     → Evolves s s' → next ≤ next' → LeavesOthers s s' v.who → ((k : ℕ) → k ≢ v.who → debts' k ≡ debts k) → (HasRoom s next rows → DebtOk s debts → DebtOk s' debts') → DebtDoing s' w.doing (debts' v.who)
@@ -116,6 +81,6 @@ debt_holds s s' views id v w debts debts' next next' rows ok debt at who ev up l
         let y : u.who ≢ v.who = λ q. z (ok.alone j id u v e at q) in
         let o = ok.each j u e in
         subst (DebtDoing s' u.doing) (sym (theirs u.who y))
-        (kept s s' ok.table ev u.doing (debts u.who) o.doing
+        (debt_doing_kept s s' ok.table ev u.doing (debts u.who) o.doing
         (λ n h c. let l = o.held n c in (leaves n (inr h) (λ x. omega arith) (λ x. y (omega arith))).0.stamp)
         (debt.doing j u e))

@@ -61,14 +61,6 @@ pub record MayOweRaise (s : State) (debts : ℕ → Debt) (id parent row raised 
 abbrev pub clear_debt : State → ℕ → Debt → Debt
 clear_debt s' row v = record { to_do = v.to_do; list = noted s' row v.list; turning = None }
 
--- what a pass knows of its debt from `mark_shrinking` to `clear_shrinking`, and of its to-do key up to `link_parent`
-pub record Turning (s : State) (v : Debt) (row : ℕ) : Type 0 where
-  pub turning : v.turning ≡ Some row
-  pub owes : Owes s v row
-
-abbrev pub AimsAtTurn : State → Debt → (row raised : ℕ) → Type 0
-AimsAtTurn s v row raised = (v.to_do ≡ Some (s.key row)) ⊎ (v.to_do ≡ Some (s.key raised))
-
 -- `pass_up`: a settled row is taken off, and the to-do key goes up to its parent
 pub record MayPassUp (s : State) (v : Debt) (parent : ℕ) (d : Side) (row : ℕ) : Type 0 where
   pub parent_live : IsParent s parent d

@@ -1,26 +1,15 @@
 -- The debts beside the views. They are spoken of only while there is room; what a pass in a change knows of its debt holds
 -- in any case.
-use Rattle.std.specs.Prelude.{List, None, Some, ℕ, ◌≡◌, ◌≢◌, ◌⊎◌}
+use Rattle.std.specs.Prelude.{List, Some, ℕ, ◌≡◌, ◌≢◌, ◌⊎◌}
 use Rattle.snap_stamp.specs.declared.side.Side.{Side}
 use Rattle.snap_rule.specs.Debt.{DebtOk, OwesNone, no_debt}
-use Rattle.snap_rule.specs.Debt.Kinds.{AimsAtTurn, Turning}
+use Rattle.snap_rule.specs.Debt.Changes.{DebtDoing}
 use Rattle.snap_rule.specs.Debt.Lists.{Aims}
 use Rattle.snap_rule.specs.Room.{HasRoom}
 use Rattle.snap_rule.specs.Rule.{IsParent}
 use Rattle.snap_rule.specs.State.{State}
 use Rattle.snap_rule.specs.Views.{Holds, View, at_seat}
-use Rattle.snap_rule.specs.declared.change.Doing.{Doing}
-use Rattle.snap_rule.specs.declared.change.Doing.TheVariants.{Lifted, Lowered, Nothing, Shrunk, Turned, Unlinked}
 use Rattle.snap_rule.specs.declared.debt.Debt.{Debt}
-
--- what a pass in a change knows of its debt
-abbrev pub DebtDoing : State → Doing → Debt → Type 0
-DebtDoing s Nothing v = v.turning ≡ None
-DebtDoing s (Unlinked parent d row only) v = v.turning ≡ None
-DebtDoing s (Shrunk parent p row d raised) v = Turning s v row × AimsAtTurn s v row raised
-DebtDoing s (Lowered parent p row d raised) v = Turning s v row × AimsAtTurn s v row raised
-DebtDoing s (Lifted parent p row d raised) v = Turning s v row × AimsAtTurn s v row raised
-DebtDoing s (Turned row) v = Turning s v row
 
 -- the debts under room, what each pass knows of its own, and no debt for a number that no pass has
 pub record DebtHolds (s : State) (views : List View) (debts : ℕ → Debt) (next rows : ℕ) : Type 0 where

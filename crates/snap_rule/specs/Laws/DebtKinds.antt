@@ -4,7 +4,8 @@ use Rattle.snap_model.specs.History.{call_key, call_value}
 use Rattle.snap_model.specs.declared.call.Entry.{Entry}
 use Rattle.snap_stamp.specs.declared.side.Side.{Side}
 use Rattle.snap_rule.specs.Debt.{DebtOk, Owes, OwesNone, no_debt}
-use Rattle.snap_rule.specs.Debt.Kinds.{AimsAtTurn, MayAim, MayOweHeight, MayOweRaise, MayOweTurn, MayPassUp, Turning, clear_debt, height_debt, leaf_debt, raise_debt, shrink_debt, stored_debt}
+use Rattle.snap_rule.specs.Debt.Kinds.{MayAim, MayOweHeight, MayOweRaise, MayOweTurn, MayPassUp, clear_debt, height_debt, leaf_debt, raise_debt, shrink_debt, stored_debt}
+use Rattle.snap_rule.specs.Debt.Changes.{AimsAtTurn, Turning}
 use Rattle.snap_rule.specs.Debt.Lists.{Aims, aimed, noted, taken}
 use Rattle.snap_rule.specs.Debt.Step.{IsFree, IsSilent, Owing}
 use Rattle.snap_rule.specs.Evolves.{Evolves}

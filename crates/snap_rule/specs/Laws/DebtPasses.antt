@@ -7,7 +7,8 @@ use Rattle.snap_rule.specs.Debt.{DebtOk, OwesNone, Turns, no_debt}
 use Rattle.snap_rule.specs.Debt.Kinds.{MayAim, MayOweHeight, MayPassUp, clear_debt, height_debt, leaf_debt, raise_debt, shrink_debt, stored_debt}
 use Rattle.snap_rule.specs.Debt.Lists.{Aims, aimed, noted, taken}
 use Rattle.snap_rule.specs.Debt.Step.{IsFree, IsSilent}
-use Rattle.snap_rule.specs.Debt.Views.{DebtDoing, DebtHolds, ShrinkAims, Stepping}
+use Rattle.snap_rule.specs.Debt.Views.{DebtHolds, ShrinkAims, Stepping}
+use Rattle.snap_rule.specs.Debt.Changes.{DebtDoing}
 use Rattle.snap_rule.specs.Evolves.{Evolves}
 use Rattle.snap_rule.specs.Kinds.Clones.{MayLinkCopy, copy_linked}
 use Rattle.snap_rule.specs.Kinds.Entries.{MayLinkLeaf, MayStoreValue, leaf_linked, value_stored}

@@ -2,12 +2,15 @@
 use Rattle.std.specs.Prelude.{None, Some, ℕ, ◌+◌, ◌≡◌, ◌≢◌, ◌≤◌}
 use Rattle.snap_stamp.specs.Stamps.{IsUnmarked}
 use Rattle.snap_rule.specs.Debt.{DebtFits, DebtOk, Owes, OwesNone, Turns}
+use Rattle.snap_rule.specs.Debt.Changes.{DebtDoing}
 use Rattle.snap_rule.specs.Debt.Step.{DebtEvolves, DebtStep, IsFree}
+use Rattle.snap_rule.specs.Doing.{Concerns, DoingOk}
 use Rattle.snap_rule.specs.Evolves.{Evolves}
 use Rattle.snap_rule.specs.Room.{HasRoom}
 use Rattle.snap_rule.specs.Rule.{IsLive, TableOk}
 use Rattle.snap_rule.specs.State.{In, State}
 use Rattle.snap_rule.specs.Tree.{OnWay}
+use Rattle.snap_rule.specs.declared.change.Doing.{Doing}
 use Rattle.snap_rule.specs.declared.debt.Debt.{Debt}
 
 -- one law for a step: where the stepping pass accounts for the new tree, the debts are right afterwards
@@ -49,3 +52,13 @@ abbrev pub FitsKept : Type 0
 FitsKept = (s s' : State) (v u : Debt) → ((m : ℕ) → In m s.linked → In m s'.linked × (s.stamp m ≤ s'.stamp m))
     → DebtEvolves s s' v → ((n : ℕ) → v.turning ≡ Some n → ¬ Owes s u n) → DebtFits s u
     → DebtFits s' u
+
+-- a pass is lowering only a row of its change, which it holds
+abbrev pub TurnedConcerns : Type 0
+TurnedConcerns = (s : State) (g : Doing) (v : Debt) (n : ℕ) → DebtDoing s g v → v.turning ≡ Some n → Concerns g n
+
+-- a step that keeps the stamps of a change's rows keeps what its pass knows of its debt
+abbrev pub DebtDoingKept : Type 0
+DebtDoingKept = (s s' : State) (g : Doing) (v : Debt) → TableOk s → Evolves s s' → DoingOk s g
+    → ((n : ℕ) → In n s.linked → Concerns g n → s'.stamp n ≡ s.stamp n) → DebtDoing s g v
+    → DebtDoing s' g v
