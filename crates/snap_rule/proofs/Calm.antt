@@ -16,7 +16,8 @@ use Rattle.snap_rule.specs.declared.quiescence.Load.{Load}
 use Rattle.snap_rule.specs.Rule.{TreeOk, ChangesOk, NoneWrites, Fits}
 use Rattle.snap_rule.proofs.Trees.{reads_same, each_at, each_stands}
 
-pub calm_kept : (s s' : State) (ended low high c : ℕ) (l : List Load) → Evolves s s' → QuietOk s ended l → CalmOk s ended low high c → CalmOk s' ended low high c
+pub calm_kept : (s s' : State) (ended low high c : ℕ) (l : List Load) → Evolves s s' → QuietOk s ended l → CalmOk s ended low high c
+    → CalmOk s' ended low high c
 calm_kept s s' ended low high c l ev q h e =
     let up = ev.entered in
     let same : s.gate / 2 ≡ ended = omega (arith, q.few) in
@@ -52,7 +53,9 @@ pub record CalmRow (s : State) (low high c : ℕ) : Type 0 where
   pub on_left : IsCalm s low (s.key c) (s.link c Left)
   pub on_right : IsCalm s (s.key c + 1) high (s.link c Right)
 
-calm_node : (s : State) (low high c : ℕ) (t : Tree) → c ≢ 0 → root t ≡ c → Reads s s.link t → Between low high t → EachRow (λ r. In r s.linked × IsUnmarked (s.stamp r)) t → CalmRow s low high c
+calm_node : (s : State) (low high c : ℕ) (t : Tree) → c ≢ 0 → root t ≡ c → Reads s s.link t → Between low high t
+    → EachRow (λ r. In r s.linked × IsUnmarked (s.stamp r)) t
+    → CalmRow s low high c
 calm_node s low high c empty z e r o u = absurd (z (sym e))
 calm_node s low high c (node m a b) z e r o u =
     let k : m.key ≡ s.key c = sym r.0.key ∙ ap s.key e in
@@ -85,7 +88,8 @@ place_kept s s' k n v ev same h =
     still u i (inr (inl w)) = inr w
     still u i (inr (inr o)) = absurd (u (record { is_row = o.shared.is_row; older = let a = o.shared.older in let b = ev.birth n i in omega arith }))
 
-    go : IsUnmarked (s.stamp n) → s'.stamp n ≡ s.stamp n → WasLinked s n → (n ≡ 0) ⊎ (¬ IsShared s n) × OnWay s.tree k n → (n ≡ 0) ⊎ (¬ IsShared s' n) × OnWay s'.tree k n
+    go : IsUnmarked (s.stamp n) → s'.stamp n ≡ s.stamp n → WasLinked s n → (n ≡ 0) ⊎ (¬ IsShared s n) × OnWay s.tree k n
+        → (n ≡ 0) ⊎ (¬ IsShared s' n) × OnWay s'.tree k n
     go m e i (inl z) = inl z
     go m e (inl z) (inr w) = inl z
     go m e (inr i) (inr w) = still w.0 i (ev.place n k w.1 w.0 m e)

@@ -28,10 +28,16 @@ use Rattle.snap_rule.specs.Debt.Lists.{noted, taken, aimed}
 
 -- equal heights
 pub balanced_same : (h l r h' l' r' : ℕ) → h' ≡ h → l' ≡ l → r' ≡ r → IsBalanced h l r → IsBalanced h' l' r'
-balanced_same h l r h' l' r' e x y b = record { sum = e ∙ b.sum ∙ sym (ap₂ (λ (i j : ℕ). one_more (max i j)) x y); left_low = omega (arith, b.left_low); right_low = omega (arith, b.right_low) }
+balanced_same h l r h' l' r' e x y b = record {
+  sum = e ∙ b.sum ∙ sym (ap₂ (λ (i j : ℕ). one_more (max i j)) x y);
+  left_low = omega (arith, b.left_low);
+  right_low = omega (arith, b.right_low);
+}
 
 -- a row with the same words and the same heights below it
-pub settled_same : (s s' : State) (n n' : ℕ) → s'.height n' ≡ s.height n → (s.value n ≢ 0 → s'.value n' ≢ 0) → ((d : Side) → s.links n d ≢ 0 → s'.links n' d ≢ 0) → ((d : Side) → child_height s' n' d ≡ child_height s n d) → IsSettled s n → IsSettled s' n'
+pub settled_same : (s s' : State) (n n' : ℕ) → s'.height n' ≡ s.height n → (s.value n ≢ 0 → s'.value n' ≢ 0)
+    → ((d : Side) → s.links n d ≢ 0 → s'.links n' d ≢ 0) → ((d : Side) → child_height s' n' d ≡ child_height s n d) → IsSettled s n
+    → IsSettled s' n'
 settled_same s s' n n' h v l k a = (
   balanced_same (s.height n) (child_height s n Left) (child_height s n Right) (s'.height n') (child_height s' n' Left) (child_height s' n' Right) h (k Left) (k Right) a.0,
   elim a.1 [ inl q ↦ inl (v q) | inr q ↦ inr (l Left q.0, l Right q.1) ],
@@ -46,7 +52,9 @@ pub same_live : (s s' : State) (n : ℕ) → s'.birth n ≡ s.birth n → s'.epo
 same_live s s' n b e l u = l.own (record { is_row = u.is_row; older = (let o = u.older in omega arith) })
 
 -- what is owed after a step and listed before it was owed before it
-pub owed_back : (s s' : State) (v : Debt) (n : ℕ) → ((m : ℕ) → In m s.linked → In m s'.linked × (s.stamp m ≤ s'.stamp m)) → DebtFits s v → IsListed n (s'.stamp n) v.list → (s'.stamp n ≡ s.stamp n) × Owes s v n
+pub owed_back : (s s' : State) (v : Debt) (n : ℕ) → ((m : ℕ) → In m s.linked → In m s'.linked × (s.stamp m ≤ s'.stamp m)) → DebtFits s v
+    → IsListed n (s'.stamp n) v.list
+    → (s'.stamp n ≡ s.stamp n) × Owes s v n
 owed_back s s' v n grows ok h =
     let p = ok.past n (s'.stamp n) h in
     let g = grows n p.0 in
@@ -101,7 +109,9 @@ module _ (s s' : State) (debts debts' : ℕ → Debt) (id : ℕ) (theirs : (j : 
   }
 
 -- what a step leaves to another pass keeps that pass's debt
-pub fits_kept : (s s' : State) (v u : Debt) → ((m : ℕ) → In m s.linked → In m s'.linked × (s.stamp m ≤ s'.stamp m)) → DebtEvolves s s' v → ((n : ℕ) → v.turning ≡ Some n → ¬ Owes s u n) → DebtFits s u → DebtFits s' u
+pub fits_kept : (s s' : State) (v u : Debt) → ((m : ℕ) → In m s.linked → In m s'.linked × (s.stamp m ≤ s'.stamp m)) → DebtEvolves s s' v
+    → ((n : ℕ) → v.turning ≡ Some n → ¬ Owes s u n) → DebtFits s u
+    → DebtFits s' u
 fits_kept s s' v u grows evolves apart ok = record {
   past = λ n x h. let p = ok.past n x h in let g = grows n p.0 in (g.0, omega (arith, p.1, g.1));
   owed = λ n h.
@@ -112,9 +122,11 @@ fits_kept s s' v u grows evolves apart ok = record {
 }
 
 -- the debt of the pass itself, from what it lists anew and what it owed
-pub own_fits : (s s' : State) (v w : Debt) → ((n : ℕ) → In n s.linked → In n s'.linked × (s.stamp n ≤ s'.stamp n)) → DebtFits s v → ((n : ℕ) → Stands n s'.tree → In n s'.linked)
+pub own_fits : (s s' : State) (v w : Debt) → ((n : ℕ) → In n s.linked → In n s'.linked × (s.stamp n ≤ s'.stamp n)) → DebtFits s v
+    → ((n : ℕ) → Stands n s'.tree → In n s'.linked)
     → ((n x : ℕ) → IsListed n x w.list → (x ≡ s'.stamp n) × IsLive s' n × OnPath s' w n ⊎ IsListed n x v.list)
-    → ((n : ℕ) → IsLive s n → s'.stamp n ≡ s.stamp n → Owes s v n → OnPath s v n → IsLive s' n × OnPath s' w n) → DebtFits s' w
+    → ((n : ℕ) → IsLive s n → s'.stamp n ≡ s.stamp n → Owes s v n → OnPath s v n → IsLive s' n × OnPath s' w n)
+    → DebtFits s' w
 own_fits s s' v w grows ok rows back keep = record {
   past = λ n x h. elim (back n x h) [ inl q ↦ (rows n q.1.stands, omega (arith, q.0)) | inr q ↦ (let p = ok.past n x q in let g = grows n p.0 in (g.0, omega (arith, p.1, g.1))) ];
   owed = λ n h. elim (back n (s'.stamp n) h) [ inl q ↦ (q.1, q.2) | inr q ↦ (let b = owed_back s s' v n grows ok q in let o = ok.owed n b.1 in keep n o.0 b.0 b.1 o.1) ];

@@ -26,10 +26,17 @@ pub parent_same : (s s' : State) (n : ℕ) (d : Side) → (IsLive s n → IsLive
 parent_same s s' n d f (inl z) = inl z
 parent_same s s' n d f (inr l) = inr (f l)
 
-pub unlink_doing : (s : State) (parent : ℕ) (d : Side) (row : ℕ) → TreeOk s → ChangesOk s → MayMarkUnlinked s parent d row → DoingOk (unlinked_marked s parent d row) (Unlinked parent d row (only_child s row))
-unlink_doing s parent d row tree_ok changes_ok may = record { parent_live = parent_after_unlink s parent d row tree_ok changes_ok may; change = relink_same s.pending parent d (unlinking row); child = relink_same s.links parent d (only_child s row) }
+pub unlink_doing : (s : State) (parent : ℕ) (d : Side) (row : ℕ) → TreeOk s → ChangesOk s → MayMarkUnlinked s parent d row
+    → DoingOk (unlinked_marked s parent d row) (Unlinked parent d row (only_child s row))
+unlink_doing s parent d row tree_ok changes_ok may = record {
+  parent_live = parent_after_unlink s parent d row tree_ok changes_ok may;
+  change = relink_same s.pending parent d (unlinking row);
+  child = relink_same s.links parent d (only_child s row);
+}
 
-pub shrink_doing : (s : State) (parent : ℕ) (p : Side) (row : ℕ) (d : Side) (raised : ℕ) → IsRotation s parent p row d raised → IsUnmarked (s.stamp row) → s.pending row d ≡ plain → NotNamed s row → DoingOk (shrinking_marked s row) (Shrunk parent p row d raised)
+pub shrink_doing : (s : State) (parent : ℕ) (p : Side) (row : ℕ) (d : Side) (raised : ℕ) → IsRotation s parent p row d raised
+    → IsUnmarked (s.stamp row) → s.pending row d ≡ plain → NotNamed s row
+    → DoingOk (shrinking_marked s row) (Shrunk parent p row d raised)
 shrink_doing s parent p row d raised t u q z =
     let s' : State = shrinking_marked s row in
     let live : (n : ℕ) → IsLive s n → IsLive s' n = λ n. live_same s s' n (λ h. h) refl refl in
@@ -41,7 +48,8 @@ shrink_doing s parent p row d raised t u q z =
     }
 
 -- what `link_lowered` needs, and after it
-pub lower_doing : (s : State) (parent : ℕ) (p : Side) (row : ℕ) (d : Side) (raised : ℕ) → s.writers ≢ 0 → ChangesOk s → s.pending raised (other d) ≡ plain → DoingOk s (Shrunk parent p row d raised)
+pub lower_doing : (s : State) (parent : ℕ) (p : Side) (row : ℕ) (d : Side) (raised : ℕ) → s.writers ≢ 0 → ChangesOk s
+    → s.pending raised (other d) ≡ plain → DoingOk s (Shrunk parent p row d raised)
     → MayLinkLowered s row d raised × DoingOk (lowered_linked s row d raised) (Lowered parent p row d raised)
 lower_doing s parent p row d raised writing changes_ok free h =
     let t = h.turn in
@@ -137,7 +145,8 @@ raise_doing s parent p row d raised writing h =
     ]
 
 -- what `splice` and `clear_shrinking` need
-pub splice_doing : (s : State) (parent : ℕ) (d : Side) (row only : ℕ) → s.writers ≢ 0 → DoingOk s (Unlinked parent d row only) → MaySplice s parent d row × (s.links parent d ≡ only)
+pub splice_doing : (s : State) (parent : ℕ) (d : Side) (row only : ℕ) → s.writers ≢ 0 → DoingOk s (Unlinked parent d row only)
+    → MaySplice s parent d row × (s.links parent d ≡ only)
 splice_doing s parent d row only writing h = (record { writing = writing; parent_live = h.parent_live; change = h.change }, h.child)
 
 pub clear_doing : (s : State) (row : ℕ) → s.writers ≢ 0 → DoingOk s (Turned row) → MayClearShrinking s row
@@ -145,7 +154,9 @@ clear_doing s row writing h = record { writing = writing; live = h.live; marked 
 
 -- a step that leaves the rows of a change alone
 module _ (s s' : State) where
-  turn_kept : (parent : ℕ) (p : Side) (row : ℕ) (d : Side) (raised : ℕ) → Apart s s' parent → Apart s s' row → Apart s s' raised → IsRotation s parent p row d raised → IsRotation s' parent p row d raised
+  turn_kept : (parent : ℕ) (p : Side) (row : ℕ) (d : Side) (raised : ℕ) → Apart s s' parent → Apart s s' row → Apart s s' raised
+      → IsRotation s parent p row d raised
+      → IsRotation s' parent p row d raised
   turn_kept parent p row d raised a b c t = record {
     parent_live = parent_same s s' parent p a.live t.parent_live;
     live = b.live t.live;

@@ -24,7 +24,8 @@ use Rattle.snap_rule.proofs.InChange.{live_same}
 
 module _ (s : State) (n : ℕ) where
   -- the changes that name a row, where one link's change became another that doesn't name it
-  names_less : (f : ℕ → Side → Change) (r : ℕ) (d : Side) (x : Change) → (x ≡ raising n → ⊥) → (m : ℕ) (e : Side) → relink f r d x m e ≡ raising n → f m e ≡ raising n
+  names_less : (f : ℕ → Side → Change) (r : ℕ) (d : Side) (x : Change) → (x ≡ raising n → ⊥) → (m : ℕ) (e : Side) → relink f r d x m e ≡ raising n
+      → f m e ≡ raising n
   names_less f r d x z m e q = elim (same_place m r e d) [
     | inl y ↦ absurd (z (sym (ap₂ (relink f r d x) y.0 y.1 ∙ relink_same f r d x) ∙ q))
     | inr y ↦ sym (relink_away f r d x m e y) ∙ q
@@ -41,16 +42,44 @@ module _ (s : State) (n : ℕ) where
   }
 
   pub lock_apart : (row x : ℕ) → Apart s (lock_stored s row x) n
-  lock_apart row x = record { stamp = refl; link = λ d. refl; links = λ d. refl; pending = λ d. refl; named = λ m e q. q; live = live_same s (lock_stored s row x) n (λ i. i) refl refl }
+  lock_apart row x = record {
+    stamp = refl;
+    link = λ d. refl;
+    links = λ d. refl;
+    pending = λ d. refl;
+    named = λ m e q. q;
+    live = live_same s (lock_stored s row x) n (λ i. i) refl refl;
+  }
 
   pub header_apart : (g a w : ℕ) → Apart s (header_stored s g a w) n
-  header_apart g a w = record { stamp = refl; link = λ d. refl; links = λ d. refl; pending = λ d. refl; named = λ m e q. q; live = live_same s (header_stored s g a w) n (λ i. i) refl refl }
+  header_apart g a w = record {
+    stamp = refl;
+    link = λ d. refl;
+    links = λ d. refl;
+    pending = λ d. refl;
+    named = λ m e q. q;
+    live = live_same s (header_stored s g a w) n (λ i. i) refl refl;
+  }
 
   pub store_apart : (row : ℕ) (e : Entry) → Apart s (value_stored s row e) n
-  store_apart row e = record { stamp = refl; link = λ d. refl; links = λ d. refl; pending = λ d. refl; named = λ m x q. q; live = live_same s (value_stored s row e) n (stands_with_value row (call_value e.call) s.tree n) refl refl }
+  store_apart row e = record {
+    stamp = refl;
+    link = λ d. refl;
+    links = λ d. refl;
+    pending = λ d. refl;
+    named = λ m x q. q;
+    live = live_same s (value_stored s row e) n (stands_with_value row (call_value e.call) s.tree n) refl refl;
+  }
 
   pub height_apart : (row x : ℕ) → Apart s (height_stored s row x) n
-  height_apart row x = record { stamp = refl; link = λ d. refl; links = λ d. refl; pending = λ d. refl; named = λ m e q. q; live = live_same s (height_stored s row x) n (stands_with_height row x s.tree n) refl refl }
+  height_apart row x = record {
+    stamp = refl;
+    link = λ d. refl;
+    links = λ d. refl;
+    pending = λ d. refl;
+    named = λ m e q. q;
+    live = live_same s (height_stored s row x) n (stands_with_height row x s.tree n) refl refl;
+  }
 
   pub leaf_apart : (parent : ℕ) (d : Side) (row : ℕ) (e : Entry) → n ≢ parent → n ≢ row → Apart s (leaf_linked s parent d row e) n
   leaf_apart parent d row e z y = record {
@@ -62,7 +91,8 @@ module _ (s : State) (n : ℕ) where
     live = live_same s (leaf_linked s parent d row e) n (stands_grown parent d (leaf_of row e) s.tree n) refl refl;
   }
 
-  pub copy_apart : (parent : ℕ) (d : Side) (row copy : ℕ) → MayLinkCopy s parent d row copy → n ≢ parent → n ≢ copy → Apart s (copy_linked s parent d row copy) n
+  pub copy_apart : (parent : ℕ) (d : Side) (row copy : ℕ) → MayLinkCopy s parent d row copy → n ≢ parent → n ≢ copy
+      → Apart s (copy_linked s parent d row copy) n
   copy_apart parent d row copy may z y = record {
     stamp = refl;
     link = λ x. relink_other s.link parent d copy n x z;
@@ -72,7 +102,8 @@ module _ (s : State) (n : ℕ) where
     live = λ l. live_same s (copy_linked s parent d row copy) n (stands_renamed row copy s.tree n (λ q. l.own (subst (IsShared s) (sym q) may.shared))) refl refl l;
   }
 
-  pub unlink_apart : (parent : ℕ) (d : Side) (row : ℕ) → TreeOk s → ChangesOk s → MayMarkUnlinked s parent d row → n ≢ parent → n ≢ row → Apart s (unlinked_marked s parent d row) n
+  pub unlink_apart : (parent : ℕ) (d : Side) (row : ℕ) → TreeOk s → ChangesOk s → MayMarkUnlinked s parent d row → n ≢ parent → n ≢ row
+      → Apart s (unlinked_marked s parent d row) n
   unlink_apart parent d row tree_ok changes_ok may z y = record {
     stamp = changed_other s.stamp row (s.stamp row + 1) n y;
     link = λ x. refl;
@@ -93,10 +124,24 @@ module _ (s : State) (n : ℕ) where
   }
 
   pub shrink_apart : (row : ℕ) → n ≢ row → Apart s (shrinking_marked s row) n
-  shrink_apart row z = record { stamp = changed_other s.stamp row (s.stamp row + 2) n z; link = λ d. refl; links = λ d. refl; pending = λ d. refl; named = λ m e q. q; live = live_same s (shrinking_marked s row) n (λ i. i) refl refl }
+  shrink_apart row z = record {
+    stamp = changed_other s.stamp row (s.stamp row + 2) n z;
+    link = λ d. refl;
+    links = λ d. refl;
+    pending = λ d. refl;
+    named = λ m e q. q;
+    live = live_same s (shrinking_marked s row) n (λ i. i) refl refl;
+  }
 
   pub clear_apart : (row : ℕ) → n ≢ row → Apart s (shrinking_cleared s row) n
-  clear_apart row z = record { stamp = changed_other s.stamp row (s.stamp row + 2) n z; link = λ d. refl; links = λ d. refl; pending = λ d. refl; named = λ m e q. q; live = live_same s (shrinking_cleared s row) n (λ i. i) refl refl }
+  clear_apart row z = record {
+    stamp = changed_other s.stamp row (s.stamp row + 2) n z;
+    link = λ d. refl;
+    links = λ d. refl;
+    pending = λ d. refl;
+    named = λ m e q. q;
+    live = live_same s (shrinking_cleared s row) n (λ i. i) refl refl;
+  }
 
   pub lower_apart : (row : ℕ) (d : Side) (raised : ℕ) → n ≢ row → Apart s (lowered_linked s row d raised) n
   lower_apart row d raised z =
@@ -123,7 +168,8 @@ module _ (s : State) (n : ℕ) where
     live = live_same s (raised_linked s row d raised) n (λ i. i) refl refl;
   }
 
-  pub raise_apart : (parent : ℕ) (p : Side) (row : ℕ) (d : Side) (raised : ℕ) → n ≢ parent → n ≢ row → n ≢ raised → Apart s (parent_linked s parent p row d raised) n
+  pub raise_apart : (parent : ℕ) (p : Side) (row : ℕ) (d : Side) (raised : ℕ) → n ≢ parent → n ≢ row → n ≢ raised
+      → Apart s (parent_linked s parent p row d raised) n
   raise_apart parent p row d raised x y z =
       let one : ℕ → Side → ℕ = relink s.links row d (s.link row d) in
       let first : ℕ → Side → Change = relink s.pending row d plain in
@@ -157,16 +203,20 @@ module _ (s : State) (who : ℕ) where
   pub header_leaves : (g a w : ℕ) → LeavesOthers s (header_stored s g a w) who
   header_leaves g a w n i z y = (header_apart s n g a w, refl)
 
-  pub leaf_leaves : (parent : ℕ) (d : Side) (row : ℕ) (e : Entry) → MayLinkLeaf s parent d row e → s.lock parent ≡ who + 1 → LeavesOthers s (leaf_linked s parent d row e) who
+  pub leaf_leaves : (parent : ℕ) (d : Side) (row : ℕ) (e : Entry) → MayLinkLeaf s parent d row e → s.lock parent ≡ who + 1
+      → LeavesOthers s (leaf_linked s parent d row e) who
   leaf_leaves parent d row e may held n i z y = (leaf_apart s n parent d row e (held_other parent n held y) (fresh_other row n may.is_row may.fresh i), refl)
 
   pub store_leaves : (row : ℕ) (e : Entry) → LeavesOthers s (value_stored s row e) who
   store_leaves row e n i z y = (store_apart s n row e, refl)
 
-  pub copy_leaves : (parent : ℕ) (d : Side) (row copy : ℕ) → MayLinkCopy s parent d row copy → s.lock parent ≡ who + 1 → LeavesOthers s (copy_linked s parent d row copy) who
+  pub copy_leaves : (parent : ℕ) (d : Side) (row copy : ℕ) → MayLinkCopy s parent d row copy → s.lock parent ≡ who + 1
+      → LeavesOthers s (copy_linked s parent d row copy) who
   copy_leaves parent d row copy may held n i z y = (copy_apart s n parent d row copy may (held_other parent n held y) (fresh_other copy n may.is_row may.fresh i), refl)
 
-  pub unlink_leaves : TreeOk s → ChangesOk s → (parent : ℕ) (d : Side) (row : ℕ) → MayMarkUnlinked s parent d row → s.lock parent ≡ who + 1 → s.lock row ≡ who + 1 → LeavesOthers s (unlinked_marked s parent d row) who
+  pub unlink_leaves : TreeOk s → ChangesOk s → (parent : ℕ) (d : Side) (row : ℕ) → MayMarkUnlinked s parent d row → s.lock parent ≡ who + 1
+      → s.lock row ≡ who + 1
+      → LeavesOthers s (unlinked_marked s parent d row) who
   unlink_leaves tree_ok changes_ok parent d row may a b n i z y = (unlink_apart s n parent d row tree_ok changes_ok may (held_other parent n a y) (held_other row n b y), refl)
 
   pub splice_leaves : (parent : ℕ) (d : Side) → s.lock parent ≡ who + 1 → LeavesOthers s (spliced s parent d) who
@@ -178,10 +228,13 @@ module _ (s : State) (who : ℕ) where
   pub lower_leaves : (row : ℕ) (d : Side) (raised : ℕ) → s.lock row ≡ who + 1 → LeavesOthers s (lowered_linked s row d raised) who
   lower_leaves row d raised a n i z y = (lower_apart s n row d raised (held_other row n a y), refl)
 
-  pub lift_leaves : (row : ℕ) (d : Side) (raised : ℕ) → s.lock row ≡ who + 1 → s.lock raised ≡ who + 1 → LeavesOthers s (raised_linked s row d raised) who
+  pub lift_leaves : (row : ℕ) (d : Side) (raised : ℕ) → s.lock row ≡ who + 1 → s.lock raised ≡ who + 1
+      → LeavesOthers s (raised_linked s row d raised) who
   lift_leaves row d raised a b n i z y = (lift_apart s n row d raised (held_other row n a y) (held_other raised n b y), refl)
 
-  pub raise_leaves : (parent : ℕ) (p : Side) (row : ℕ) (d : Side) (raised : ℕ) → s.lock parent ≡ who + 1 → s.lock row ≡ who + 1 → s.lock raised ≡ who + 1 → LeavesOthers s (parent_linked s parent p row d raised) who
+  pub raise_leaves : (parent : ℕ) (p : Side) (row : ℕ) (d : Side) (raised : ℕ) → s.lock parent ≡ who + 1 → s.lock row ≡ who + 1
+      → s.lock raised ≡ who + 1
+      → LeavesOthers s (parent_linked s parent p row d raised) who
   raise_leaves parent p row d raised a b c n i z y = (raise_apart s n parent p row d raised (held_other parent n a y) (held_other row n b y) (held_other raised n c y), refl)
 
   pub clear_leaves : (row : ℕ) → s.lock row ≡ who + 1 → LeavesOthers s (shrinking_cleared s row) who

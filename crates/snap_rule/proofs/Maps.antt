@@ -15,7 +15,8 @@ filtered_out : (f : ℕ → Bool) (m : Pairs) (k : ℕ) → f k ≡ false → at
 filtered_out f [] k h = refl
 filtered_out f (p ∷ m) k h = let i = filtered_out f m k h in dite (ℕ_discrete p.0 k) (λ e. let t : f p.0 ≡ false = ap f e ∙ h in rw t i) (λ n. either (f p.0) (ne_eqb p.0 k n) i)
   where
-    either : (b : Bool) → eqb p.0 k ≡ false → at (filter (λ p. f p.0) m) k ≡ None → at (cond b (p ∷ filter (λ p. f p.0) m) (filter (λ p. f p.0) m)) k ≡ None
+    either : (b : Bool) → eqb p.0 k ≡ false → at (filter (λ p. f p.0) m) k ≡ None
+        → at (cond b (p ∷ filter (λ p. f p.0) m) (filter (λ p. f p.0) m)) k ≡ None
     either true q i = rw q i
     either false q i = i
 
@@ -23,7 +24,8 @@ filtered_in : (f : ℕ → Bool) (m : Pairs) (k : ℕ) → f k ≡ true → at (
 filtered_in f [] k h = refl
 filtered_in f (p ∷ m) k h = let i = filtered_in f m k h in dite (ℕ_discrete p.0 k) (λ e. let t : f p.0 ≡ true = ap f e ∙ h in rw t (ap (cond (eqb p.0 k) (Some p.1)) i)) (λ n. either (f p.0) (ne_eqb p.0 k n) i)
   where
-    either : (b : Bool) → eqb p.0 k ≡ false → at (filter (λ p. f p.0) m) k ≡ at m k → at (cond b (p ∷ filter (λ p. f p.0) m) (filter (λ p. f p.0) m)) k ≡ cond (eqb p.0 k) (Some p.1) (at m k)
+    either : (b : Bool) → eqb p.0 k ≡ false → at (filter (λ p. f p.0) m) k ≡ at m k
+        → at (cond b (p ∷ filter (λ p. f p.0) m) (filter (λ p. f p.0) m)) k ≡ cond (eqb p.0 k) (Some p.1) (at m k)
     either true q i = rw q i
     either false q i = rw q i
 
@@ -39,7 +41,8 @@ pub at_append : (l r : Pairs) (k : ℕ) → at (l ++ r) k ≡ or_else (at l k) (
 at_append [] r k = refl
 at_append (p ∷ l) r k = either (eqb p.0 k) (at_append l r k)
   where
-    either : (b : Bool) → at (l ++ r) k ≡ or_else (at l k) (at r k) → cond b (Some p.1) (at (l ++ r) k) ≡ or_else (cond b (Some p.1) (at l k)) (at r k)
+    either : (b : Bool) → at (l ++ r) k ≡ or_else (at l k) (at r k)
+        → cond b (Some p.1) (at (l ++ r) k) ≡ or_else (cond b (Some p.1) (at l k)) (at r k)
     either true i = refl
     either false i = i
 

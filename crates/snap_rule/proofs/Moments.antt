@@ -8,7 +8,10 @@ pub begins_refl : (xs : List Entry) → Begins xs xs
 begins_refl xs = record { rest = []; is = append-nil xs }
 
 pub begins_trans : (xs ys zs : List Entry) → Begins xs ys → Begins ys zs → Begins xs zs
-begins_trans xs ys zs a b = record { rest = a.rest ++ b.rest; is = sym (append_assoc xs a.rest b.rest) ∙ ap (λ (l : List Entry). l ++ b.rest) a.is ∙ b.is }
+begins_trans xs ys zs a b = record {
+  rest = a.rest ++ b.rest;
+  is = sym (append_assoc xs a.rest b.rest) ∙ ap (λ (l : List Entry). l ++ b.rest) a.is ∙ b.is;
+}
 
 module _ (seen h h' : List Entry) (Q : List Entry → Type 0) where
   -- a moment stays one while the history grows

@@ -39,5 +39,6 @@ quiet_kept s s' ended l ev h =
 pub quiet_begins : (s : State) → CountsOk s → QuietOk s s.left []
 quiet_begins s c = let e = c.entered in record { few = omega arith; quiet = λ q. (omega arith, tt) }
 
-pub quiet_loads : (s : State) (ended n : ℕ) (f : Field) (l : List Load) → WasLinked s n → QuietOk s ended l → QuietOk s ended (record { row = n; field = f; found = word s n f } ∷ l)
+pub quiet_loads : (s : State) (ended n : ℕ) (f : Field) (l : List Load) → WasLinked s n → QuietOk s ended l
+    → QuietOk s ended (record { row = n; field = f; found = word s n f } ∷ l)
 quiet_loads s ended n f l h q = record { few = q.few; quiet = λ e. let z = q.quiet e in (z.0, ((h, refl), z.1)) }

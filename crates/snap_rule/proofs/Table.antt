@@ -30,40 +30,125 @@ use Rattle.snap_rule.proofs.Evolving.Silent.{linked_other}
 
 module _ (s : State) (ok : TableOk s) where
   pub store_keeps : (row : ℕ) (e : Entry) → MayStoreValue s row e → TableOk (value_stored s row e)
-  store_keeps row e may = record { tree = store_tree s row e ok.tree may; present = store_present s ok.present row e; links = store_links s ok.tree ok.links row e; sharing = store_sharing s ok.sharing row e; changes = store_changes s row e ok.changes; counts = record { entered = ok.counts.entered } }
+  store_keeps row e may = record {
+    tree = store_tree s row e ok.tree may;
+    present = store_present s ok.present row e;
+    links = store_links s ok.tree ok.links row e;
+    sharing = store_sharing s ok.sharing row e;
+    changes = store_changes s row e ok.changes;
+    counts = record { entered = ok.counts.entered };
+  }
 
   pub height_keeps : (row x : ℕ) → TableOk (height_stored s row x)
-  height_keeps row x = record { tree = height_tree s row x ok.tree; present = height_present s ok.present row x; links = height_links s ok.tree ok.links row x; sharing = height_sharing s ok.sharing row x; changes = height_changes s row x ok.changes; counts = record { entered = ok.counts.entered } }
+  height_keeps row x = record {
+    tree = height_tree s row x ok.tree;
+    present = height_present s ok.present row x;
+    links = height_links s ok.tree ok.links row x;
+    sharing = height_sharing s ok.sharing row x;
+    changes = height_changes s row x ok.changes;
+    counts = record { entered = ok.counts.entered };
+  }
 
   pub cut_keeps : MayCut s → TableOk (cut s)
-  cut_keeps may = record { tree = cut_tree s ok.tree; present = cut_present s ok.present; links = cut_links s ok.tree ok.links; sharing = cut_sharing s ok.tree ok.links; changes = cut_changes s ok.changes may; counts = record { entered = ok.counts.entered } }
+  cut_keeps may = record {
+    tree = cut_tree s ok.tree;
+    present = cut_present s ok.present;
+    links = cut_links s ok.tree ok.links;
+    sharing = cut_sharing s ok.tree ok.links;
+    changes = cut_changes s ok.changes may;
+    counts = record { entered = ok.counts.entered };
+  }
 
   pub unlink_keeps : (parent : ℕ) (d : Side) (row : ℕ) → MayMarkUnlinked s parent d row → TableOk (unlinked_marked s parent d row)
-  unlink_keeps parent d row may = record { tree = unlink_tree s parent d row ok.tree ok.links ok.changes may; present = unlink_present s ok.present parent d row ok.tree ok.changes may; links = unlink_links s ok.tree ok.links parent d row may.live; sharing = unlink_sharing s ok.sharing parent d row; changes = unlink_changes s parent d row ok.tree ok.links ok.changes may; counts = record { entered = ok.counts.entered } }
+  unlink_keeps parent d row may = record {
+    tree = unlink_tree s parent d row ok.tree ok.links ok.changes may;
+    present = unlink_present s ok.present parent d row ok.tree ok.changes may;
+    links = unlink_links s ok.tree ok.links parent d row may.live;
+    sharing = unlink_sharing s ok.sharing parent d row;
+    changes = unlink_changes s parent d row ok.tree ok.links ok.changes may;
+    counts = record { entered = ok.counts.entered };
+  }
 
   pub splice_keeps : (parent : ℕ) (d : Side) (row : ℕ) → MaySplice s parent d row → TableOk (spliced s parent d)
-  splice_keeps parent d row may = record { tree = splice_tree s parent d ok.tree; present = splice_present s ok.present parent d; links = splice_links s ok.tree ok.links parent d row may.parent_live (at_parent s ok.tree parent d may.parent_live); sharing = splice_sharing s ok.sharing parent d row may; changes = splice_changes s parent d row ok.changes may; counts = record { entered = ok.counts.entered } }
+  splice_keeps parent d row may = record {
+    tree = splice_tree s parent d ok.tree;
+    present = splice_present s ok.present parent d;
+    links = splice_links s ok.tree ok.links parent d row may.parent_live (at_parent s ok.tree parent d may.parent_live);
+    sharing = splice_sharing s ok.sharing parent d row may;
+    changes = splice_changes s parent d row ok.changes may;
+    counts = record { entered = ok.counts.entered };
+  }
 
   pub shrink_keeps : (row : ℕ) → MayMarkShrinking s row → TableOk (shrinking_marked s row)
-  shrink_keeps row may = record { tree = shrink_tree s row ok.tree; present = shrink_present s ok.present row; links = shrink_links s ok.tree ok.links row may.live; sharing = shrink_sharing s ok.sharing row; changes = shrink_changes s row ok.changes may; counts = record { entered = ok.counts.entered } }
+  shrink_keeps row may = record {
+    tree = shrink_tree s row ok.tree;
+    present = shrink_present s ok.present row;
+    links = shrink_links s ok.tree ok.links row may.live;
+    sharing = shrink_sharing s ok.sharing row;
+    changes = shrink_changes s row ok.changes may;
+    counts = record { entered = ok.counts.entered };
+  }
 
   pub lower_keeps : (row : ℕ) (d : Side) (raised : ℕ) → MayLinkLowered s row d raised → TableOk (lowered_linked s row d raised)
-  lower_keeps row d raised may = record { tree = lower_tree s row d raised ok.tree; present = lower_present s ok.present row d raised; links = lower_links s ok.tree ok.links row d raised may; sharing = lower_sharing s ok.sharing row d raised may; changes = lower_changes s row d raised ok.changes may; counts = record { entered = ok.counts.entered } }
+  lower_keeps row d raised may = record {
+    tree = lower_tree s row d raised ok.tree;
+    present = lower_present s ok.present row d raised;
+    links = lower_links s ok.tree ok.links row d raised may;
+    sharing = lower_sharing s ok.sharing row d raised may;
+    changes = lower_changes s row d raised ok.changes may;
+    counts = record { entered = ok.counts.entered };
+  }
 
   pub lift_keeps : (row : ℕ) (d : Side) (raised : ℕ) → MayLinkRaised s row d raised → TableOk (raised_linked s row d raised)
-  lift_keeps row d raised may = record { tree = lift_tree s row d raised ok.tree; present = lift_present s ok.present row d raised; links = lift_links s ok.tree ok.links row d raised may; sharing = lift_sharing s ok.sharing row d raised may; changes = lift_changes s row d raised ok.changes may; counts = record { entered = ok.counts.entered } }
+  lift_keeps row d raised may = record {
+    tree = lift_tree s row d raised ok.tree;
+    present = lift_present s ok.present row d raised;
+    links = lift_links s ok.tree ok.links row d raised may;
+    sharing = lift_sharing s ok.sharing row d raised may;
+    changes = lift_changes s row d raised ok.changes may;
+    counts = record { entered = ok.counts.entered };
+  }
 
-  pub raise_keeps : (parent : ℕ) (p : Side) (row : ℕ) (d : Side) (raised : ℕ) → MayLinkParent s parent p row d raised → TableOk (parent_linked s parent p row d raised)
-  raise_keeps parent p row d raised may = record { tree = raise_tree s parent p row d raised ok.tree ok.links ok.changes may; present = raise_present s ok.present parent p row d raised; links = raise_links s ok.tree ok.links parent p row d raised may; sharing = raise_sharing s ok.sharing parent p row d raised may; changes = raise_changes s parent p row d raised ok.changes may; counts = record { entered = ok.counts.entered } }
+  pub raise_keeps : (parent : ℕ) (p : Side) (row : ℕ) (d : Side) (raised : ℕ) → MayLinkParent s parent p row d raised
+      → TableOk (parent_linked s parent p row d raised)
+  raise_keeps parent p row d raised may = record {
+    tree = raise_tree s parent p row d raised ok.tree ok.links ok.changes may;
+    present = raise_present s ok.present parent p row d raised;
+    links = raise_links s ok.tree ok.links parent p row d raised may;
+    sharing = raise_sharing s ok.sharing parent p row d raised may;
+    changes = raise_changes s parent p row d raised ok.changes may;
+    counts = record { entered = ok.counts.entered };
+  }
 
   pub clear_keeps : (row : ℕ) → MayClearShrinking s row → TableOk (shrinking_cleared s row)
-  clear_keeps row may = record { tree = clear_tree s row ok.tree; present = clear_present s ok.present row; links = clear_links s ok.tree ok.links row may.live; sharing = clear_sharing s ok.sharing row; changes = clear_changes s row ok.changes may; counts = record { entered = ok.counts.entered } }
+  clear_keeps row may = record {
+    tree = clear_tree s row ok.tree;
+    present = clear_present s ok.present row;
+    links = clear_links s ok.tree ok.links row may.live;
+    sharing = clear_sharing s ok.sharing row;
+    changes = clear_changes s row ok.changes may;
+    counts = record { entered = ok.counts.entered };
+  }
 
   pub copy_keeps : (parent : ℕ) (d : Side) (row copy : ℕ) → MayLinkCopy s parent d row copy → TableOk (copy_linked s parent d row copy)
-  copy_keeps parent d row copy may = record { tree = copy_tree s parent d row copy ok.tree ok.links ok.changes may; present = copy_present s ok.present parent d row copy ok.tree ok.links ok.changes may; links = copy_links s ok.tree ok.links parent d row copy may; sharing = copy_sharing s ok.sharing parent d row copy may; changes = copy_changes s parent d row copy ok.tree ok.changes may; counts = record { entered = ok.counts.entered } }
+  copy_keeps parent d row copy may = record {
+    tree = copy_tree s parent d row copy ok.tree ok.links ok.changes may;
+    present = copy_present s ok.present parent d row copy ok.tree ok.links ok.changes may;
+    links = copy_links s ok.tree ok.links parent d row copy may;
+    sharing = copy_sharing s ok.sharing parent d row copy may;
+    changes = copy_changes s parent d row copy ok.tree ok.changes may;
+    counts = record { entered = ok.counts.entered };
+  }
 
   pub leaf_keeps : (parent : ℕ) (d : Side) (row : ℕ) (e : Entry) → MayLinkLeaf s parent d row e → TableOk (leaf_linked s parent d row e)
-  leaf_keeps parent d row e may = record { tree = leaf_tree s parent d row e ok.tree ok.changes may; present = leaf_present s ok.present parent d row e ok.tree ok.changes may; links = leaf_links s ok.tree ok.links parent d row e may; sharing = leaf_sharing s ok.sharing parent d row e may; changes = leaf_changes s parent d row e ok.tree ok.changes may; counts = record { entered = ok.counts.entered } }
+  leaf_keeps parent d row e may = record {
+    tree = leaf_tree s parent d row e ok.tree ok.changes may;
+    present = leaf_present s ok.present parent d row e ok.tree ok.changes may;
+    links = leaf_links s ok.tree ok.links parent d row e may;
+    sharing = leaf_sharing s ok.sharing parent d row e may;
+    changes = leaf_changes s parent d row e ok.tree ok.changes may;
+    counts = record { entered = ok.counts.entered };
+  }
 
   pub lock_keeps : (row x : ℕ) → TableOk (lock_stored s row x)
   lock_keeps row x =
@@ -161,7 +246,8 @@ absent_keeps s e ok may =
 pub absent_here : (s : State) (row : ℕ) → TableOk s → IsLive s row → s.value row ≡ 0 → find s.tree (s.key row) ≡ None
 absent_here s row ok live z = word_none (find s.tree (s.key row)) (ap value_word (ok.tree.tells (s.key row)) ∙ sym (own_told s ok.tree row live.stands) ∙ z)
 
-pub absent_below : (s : State) (k n : ℕ) (d : Side) → TableOk s → Faces s n k d → (n ≡ 0) ⊎ OnWay s.tree k n → s.pending n d ≡ plain → s.link n d ≡ 0 → find s.tree k ≡ None
+pub absent_below : (s : State) (k n : ℕ) (d : Side) → TableOk s → Faces s n k d → (n ≡ 0) ⊎ OnWay s.tree k n → s.pending n d ≡ plain → s.link n d ≡ 0
+    → find s.tree k ≡ None
 absent_below s k n d ok f w q z =
     let e : s.link n d ≡ s.links n d = subst (Fits s n d) q (ok.changes.fits n d (stands_there s ok.tree ok.links ok.changes k n w)) in
     ok.tree.tells k ∙ tree_absent s ok.tree ok.links ok.changes k (s.links n d) (sym e ∙ z) (tree_below s ok.tree ok.links ok.changes k n d f w)

@@ -48,7 +48,8 @@ way_stands (node m a b) k n (inl e) = inl e
 way_stands (node m a b) k n (inr (inl w)) = inr (inl (way_stands a k n w.1))
 way_stands (node m a b) k n (inr (inr w)) = inr (inr (way_stands b k n w.1))
 
-pub reads_child : (s : State) (l : ℕ → Side → ℕ) (d : Side) (m : Node) (a b : Tree) → Reads s l (node m a b) → (l m.row d ≡ root (child d a b)) × Reads s l (child d a b)
+pub reads_child : (s : State) (l : ℕ → Side → ℕ) (d : Side) (m : Node) (a b : Tree) → Reads s l (node m a b)
+    → (l m.row d ≡ root (child d a b)) × Reads s l (child d a b)
 reads_child s l Left m a b h = (h.1, h.3)
 reads_child s l Right m a b h = (h.2, h.4)
 
@@ -70,7 +71,8 @@ each_stands P empty f = tt
 each_stands P (node m a b) f = (f m.row (inl refl), each_stands P a (λ n h. f n (inr (inl h))), each_stands P b (λ n h. f n (inr (inr h))))
 
 -- what a search finds is the value of the row that has the key
-pub finds_value : (s : State) (l : ℕ → Side → ℕ) (m : Node) (a b : Tree) (k : ℕ) → Reads s l (node m a b) → s.key m.row ≡ k → s.value m.row ≡ value_word (find (node m a b) k)
+pub finds_value : (s : State) (l : ℕ → Side → ℕ) (m : Node) (a b : Tree) (k : ℕ) → Reads s l (node m a b) → s.key m.row ≡ k
+    → s.value m.row ≡ value_word (find (node m a b) k)
 finds_value s l m a b k r e = r.0.value ∙ ap value_word (sym (find_here m a b k (sym r.0.key ∙ e)))
 
 -- the subtree at a row on the way of a key
@@ -84,7 +86,9 @@ pub record SubtreeAt (s : State) (l : ℕ → Side → ℕ) (t : Tree) (k n : �
   pub stands : (r : ℕ) → Stands r (node top on_left on_right) → Stands r t
   pub way : (r : ℕ) → OnWay (node top on_left on_right) k r → OnWay t k r
 
-subtree_below : (s : State) (l : ℕ → Side → ℕ) (d : Side) (m : Node) (a b : Tree) (k n : ℕ) → Toward d k m.key → SubtreeAt s l (child d a b) k n → ((r : ℕ) → Stands r (child d a b) → Stands r (node m a b)) → SubtreeAt s l (node m a b) k n
+subtree_below : (s : State) (l : ℕ → Side → ℕ) (d : Side) (m : Node) (a b : Tree) (k n : ℕ) → Toward d k m.key → SubtreeAt s l (child d a b) k n
+    → ((r : ℕ) → Stands r (child d a b) → Stands r (node m a b))
+    → SubtreeAt s l (node m a b) k n
 subtree_below s l d m a b k n e u f = record {
   top = u.top;
   on_left = u.on_left;
@@ -98,13 +102,23 @@ subtree_below s l d m a b k n e u f = record {
 
 pub subtree_at : (s : State) (l : ℕ → Side → ℕ) (t : Tree) (k n : ℕ) → Reads s l t → OnWay t k n → SubtreeAt s l t k n
 subtree_at s l empty k n r w = absurd w
-subtree_at s l (node m a b) k n r (inl e) = record { top = m; on_left = a; on_right = b; row = sym e; reads = r; finds = refl; stands = λ q h. h; way = λ q h. h }
+subtree_at s l (node m a b) k n r (inl e) = record {
+  top = m;
+  on_left = a;
+  on_right = b;
+  row = sym e;
+  reads = r;
+  finds = refl;
+  stands = λ q h. h;
+  way = λ q h. h;
+}
 subtree_at s l (node m a b) k n r (inr (inl w)) = subtree_below s l Left m a b k n w.0 (subtree_at s l a k n r.3 w.1) (λ q h. inr (inl h))
 subtree_at s l (node m a b) k n r (inr (inr w)) = subtree_below s l Right m a b k n w.0 (subtree_at s l b k n r.4 w.1) (λ q h. inr (inr h))
 
 -- the words of a tree's rows in another state
 pub reads_same : (s s' : State) (l l' : ℕ → Side → ℕ) (t : Tree) → Reads s l t
-    → ((n : ℕ) → Stands n t → (s'.key n ≡ s.key n) × (s'.value n ≡ s.value n) × (s'.height n ≡ s.height n) × ((d : Side) → l' n d ≡ l n d)) → Reads s' l' t
+    → ((n : ℕ) → Stands n t → (s'.key n ≡ s.key n) × (s'.value n ≡ s.value n) × (s'.height n ≡ s.height n) × ((d : Side) → l' n d ≡ l n d))
+    → Reads s' l' t
 reads_same s s' l l' empty r f = tt
 reads_same s s' l l' (node m a b) r f =
     let g = f m.row (inl refl) in (
@@ -126,7 +140,8 @@ root_empty s l empty r e = refl
 root_empty s l (node m a b) r e = absurd (omega (arith, r.0.is_row, e))
 
 -- the keys of a tree's rows are within its bounds
-pub key_between : (s : State) (l : ℕ → Side → ℕ) (low high : ℕ) (t : Tree) (n : ℕ) → Between low high t → Reads s l t → Stands n t → (low ≤ s.key n) × (s.key n < high)
+pub key_between : (s : State) (l : ℕ → Side → ℕ) (low high : ℕ) (t : Tree) (n : ℕ) → Between low high t → Reads s l t → Stands n t
+    → (low ≤ s.key n) × (s.key n < high)
 key_between s l low high empty n b r h = absurd h
 key_between s l low high (node m x y) n b r (inl e) = let q : s.key n ≡ m.key = ap s.key e ∙ r.0.key in (omega (arith, b.0), omega (arith, b.1))
 key_between s l low high (node m x y) n b r (inr (inl h)) = let q = key_between s l low m.key x n b.2 r.3 h in (q.0, omega (arith, q.1, b.1))

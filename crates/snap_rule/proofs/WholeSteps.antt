@@ -21,7 +21,8 @@ use Rattle.snap_rule.proofs.Calm.{calm_kept}
 use Rattle.snap_rule.proofs.InChange.{doing_kept}
 
 -- the seat that a step changes, or another
-pub seat_back : (views : List View) (id j : ℕ) (w u : View) → at_seat (with_seat views id w) j ≡ Some u → ((j ≡ id) × (u ≡ w)) ⊎ (j ≢ id) × (at_seat views j ≡ Some u)
+pub seat_back : (views : List View) (id j : ℕ) (w u : View) → at_seat (with_seat views id w) j ≡ Some u
+    → ((j ≡ id) × (u ≡ w)) ⊎ (j ≢ id) × (at_seat views j ≡ Some u)
 seat_back [] id j w u e = inr ((λ q. cc e), e)
 seat_back (v ∷ vs) zero zero w u e = inl (refl, cc e)
 seat_back (v ∷ vs) zero (suc j) w u e = inr ((λ q. omega (arith, q)), e)
@@ -68,7 +69,9 @@ module _ (s s' : State) (ev : Evolves s s') where
         held = λ n c. (away n c).1 ∙ h.held n c;
       }
 
-pub step_holds : (s s' : State) (views : List View) (id : ℕ) (v w : View) → Holds s views → at_seat views id ≡ Some v → w.who ≡ v.who → Evolves s s' → TableOk s' → LeavesOthers s s' v.who → ViewOk s' w → Holds s' (with_seat views id w)
+pub step_holds : (s s' : State) (views : List View) (id : ℕ) (v w : View) → Holds s views → at_seat views id ≡ Some v → w.who ≡ v.who → Evolves s s'
+    → TableOk s' → LeavesOthers s s' v.who → ViewOk s' w
+    → Holds s' (with_seat views id w)
 step_holds s s' views id v w h at same ev ok left new = record {
   table = ok;
   each = λ j u e. elim (seat_back views id j w u e) [

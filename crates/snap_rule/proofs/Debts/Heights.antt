@@ -27,7 +27,9 @@ heights_apart s s' n a same d = ap (height_at s'.height) (a.links d) ∙ at (s.l
     at zero = refl
     at (suc c) = same (suc c)
 
-pub heights_height : (s : State) (parent : ℕ) (p : Side) (row h n : ℕ) (d : Side) → TableOk s → IsParent s parent p → s.links parent p ≡ row → row ≢ 0 → IsParent s n d → n ≢ parent → child_height (height_stored s row h) n d ≡ child_height s n d
+pub heights_height : (s : State) (parent : ℕ) (p : Side) (row h n : ℕ) (d : Side) → TableOk s → IsParent s parent p → s.links parent p ≡ row → row ≢ 0
+    → IsParent s n d → n ≢ parent
+    → child_height (height_stored s row h) n d ≡ child_height s n d
 heights_height s parent p row h n d ok live child z at y = height_at_other s.height row h (s.links n d) (not_row at)
   where
     not_row : IsParent s n d → s.links n d ≢ row
@@ -56,12 +58,15 @@ at_positive : (f : ℕ → ℕ) (c : ℕ) → c ≢ 0 → height_at f c ≡ f c
 at_positive f zero z = absurd (z refl)
 at_positive f (suc c) z = refl
 
-pub child_loaded : (s : State) (n : ℕ) (d : Side) (c : ℕ) → TableOk s → IsParent s n d → s.pending n d ≡ plain → s.link n d ≡ c → (s.links n d ≡ c) × (c ≡ 0 → child_height s n d ≡ 0) × (c ≢ 0 → child_height s n d ≡ s.height c)
+pub child_loaded : (s : State) (n : ℕ) (d : Side) (c : ℕ) → TableOk s → IsParent s n d → s.pending n d ≡ plain → s.link n d ≡ c
+    → (s.links n d ≡ c) × (c ≡ 0 → child_height s n d ≡ 0) × (c ≢ 0 → child_height s n d ≡ s.height c)
 child_loaded s n d c ok live e q =
     let g : s.links n d ≡ c = sym (true_link s n d ok live e) ∙ q in
     (g, (λ z. ap (height_at s.height) (g ∙ z)), (λ z. ap (height_at s.height) g ∙ at_positive s.height c z))
 
-pub loaded_kept : (s s' : State) (n : ℕ) (x : Loaded) → Apart s s' n → s'.value n ≡ s.value n → s'.height n ≡ s.height n → KeepsHeights s s' n → LoadedOk s n x → LoadedOk s' n x
+pub loaded_kept : (s s' : State) (n : ℕ) (x : Loaded) → Apart s s' n → s'.value n ≡ s.value n → s'.height n ≡ s.height n → KeepsHeights s s' n
+    → LoadedOk s n x
+    → LoadedOk s' n x
 loaded_kept s s' n x a v h k ok = record {
   left = a.links Left ∙ ok.left;
   right = a.links Right ∙ ok.right;

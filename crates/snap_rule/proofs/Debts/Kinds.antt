@@ -54,7 +54,8 @@ module _ (s : State) (debts : ℕ → Debt) (id row : ℕ) (e : Entry) (ok : Tab
   store_others : DebtEvolves s (value_stored s row e) (debts id)
   store_others n l q t = (store_live n l, λ k w. way_with_value row (call_value e.call) s.tree k n w)
 
-  store_step : (o : Option ℕ) → call_value e.call ≡ o → (call_value e.call ≡ None → OwesNone s (debts id)) → DebtStep s (value_stored s row e) debts id (stored_debt s row (call_key e.call) o (debts id))
+  store_step : (o : Option ℕ) → call_value e.call ≡ o → (call_value e.call ≡ None → OwesNone s (debts id))
+      → DebtStep s (value_stored s row e) debts id (stored_debt s row (call_key e.call) o (debts id))
   store_step None q none =
       let w : Debt = stored_debt s row (call_key e.call) None (debts id) in
       record {
@@ -82,7 +83,8 @@ module _ (s : State) (debts : ℕ → Debt) (id row : ℕ) (e : Entry) (ok : Tab
     turns = λ n t. inl t;
   }
 
-  pub store_owes : (call_value e.call ≡ None → OwesNone s (debts id)) → Owing (value_stored s row e) debts id (stored_debt s row (call_key e.call) (call_value e.call) (debts id))
+  pub store_owes : (call_value e.call ≡ None → OwesNone s (debts id))
+      → Owing (value_stored s row e) debts id (stored_debt s row (call_key e.call) (call_value e.call) (debts id))
   store_owes none = owing s (value_stored s row e) debts id (stored_debt s row (call_key e.call) (call_value e.call) (debts id)) debt (store_step (call_value e.call) refl none)
 
 -- the cut
@@ -114,14 +116,18 @@ module _ (s : State) (debts : ℕ → Debt) (id : ℕ) (debt : DebtOk s debts) w
 
 -- paths to a row and to its parent
 module _ (s : State) (ok : TableOk s) where
-  pub row_to_root : (parent : ℕ) (d : Side) (row n : ℕ) → IsParent s parent d → s.links parent d ≡ row → row ≢ 0 → parent ≡ 0 → OnWay s.tree (s.key row) n → n ≡ row
+  pub row_to_root : (parent : ℕ) (d : Side) (row n : ℕ) → IsParent s parent d → s.links parent d ≡ row → row ≢ 0 → parent ≡ 0
+      → OnWay s.tree (s.key row) n
+      → n ≡ row
   row_to_root parent d row n (inl q) c z e w = let t : row ≡ root s.tree = sym c ∙ ap₂ s.links q.0 q.1 ∙ ok.tree.root in way_top s s.links s.tree n ok.tree.reads (subst (λ (x : ℕ). OnWay s.tree (s.key x) n) t w) ∙ sym t
   row_to_root parent d row n (inr l) c z e w = let p = row_positive s s.links s.tree parent ok.tree.reads l.stands in absurd (omega arith)
 
-  pub row_to_parent : (parent : ℕ) (d : Side) (row n : ℕ) → IsLive s parent → s.links parent d ≡ row → row ≢ 0 → n ≢ row → OnWay s.tree (s.key row) n → OnWay s.tree (s.key parent) n
+  pub row_to_parent : (parent : ℕ) (d : Side) (row n : ℕ) → IsLive s parent → s.links parent d ≡ row → row ≢ 0 → n ≢ row → OnWay s.tree (s.key row) n
+      → OnWay s.tree (s.key parent) n
   row_to_parent parent d row n l c z y w = way_up s s.links 0 (2 ^ 64) s.tree parent d n ok.tree.ordered ok.tree.reads l.stands (λ q. z (sym c ∙ q)) (λ q. y (q ∙ c)) (subst (λ (x : ℕ). OnWay s.tree (s.key x) n) (sym c) w)
 
-  pub parent_to_row : (parent : ℕ) (d : Side) (row n : ℕ) → IsLive s parent → s.links parent d ≡ row → row ≢ 0 → OnWay s.tree (s.key parent) n → OnWay s.tree (s.key row) n
+  pub parent_to_row : (parent : ℕ) (d : Side) (row n : ℕ) → IsLive s parent → s.links parent d ≡ row → row ≢ 0 → OnWay s.tree (s.key parent) n
+      → OnWay s.tree (s.key row) n
   parent_to_row parent d row n l c z w = subst (λ (x : ℕ). OnWay s.tree (s.key x) n) c (way_down s s.links 0 (2 ^ 64) s.tree parent d n ok.tree.ordered ok.tree.reads l.stands (λ q. z (sym c ∙ q)) w)
 
   pub own_path : (n : ℕ) → IsLive s n → OnWay s.tree (s.key n) n
@@ -150,7 +156,8 @@ module _ (s : State) (debts : ℕ → Debt) (id : ℕ) (ok : TableOk s) (debt : 
         (o.0, record { key = s.key parent; to_do = aimed_key s parent (taken row (debts id).list) a.0; way = row_to_parent s ok parent d row n (parent_is_live s parent d may.parent_live a.0) may.child may.is_row b.0 (on_path (s.key row) n may.to_do o.1) });
   }
 
-  pub up_owes : (parent : ℕ) (d : Side) (row : ℕ) → MayPassUp s (debts id) parent d row → Owing s debts id (aimed s parent (taken row (debts id).list))
+  pub up_owes : (parent : ℕ) (d : Side) (row : ℕ) → MayPassUp s (debts id) parent d row
+      → Owing s debts id (aimed s parent (taken row (debts id).list))
   up_owes parent d row may = same_step s debts id debt (aimed s parent (taken row (debts id).list)) (up_fits parent d row may)
       (λ n h. (taken_back row (debts id).list n (s.stamp n) (aimed_list s parent (taken row (debts id).list) n (s.stamp n) h).1).1)
       (λ n t. absurd (aimed_turning s parent (taken row (debts id).list) n t))

@@ -23,7 +23,8 @@ room_before s s' next next' rows ev up room = record {
     below : (x y : ℕ) → x ≤ y → y / 4 < 4611686018427387903 → x / 4 < 4611686018427387903
     below x y l h = omega arith
 
-pub reason_lasts : (s s' : State) (next next' rows : ℕ) → Evolves s s' → next ≤ next' → HasReason s next rows → HasReason s' next' rows × ¬ HasRoom s next rows
+pub reason_lasts : (s s' : State) (next next' rows : ℕ) → Evolves s s' → next ≤ next' → HasReason s next rows
+    → HasReason s' next' rows × ¬ HasRoom s next rows
 reason_lasts s s' next next' rows ev up (inl h) = (inl (omega arith), λ r. let l = r.rows_left in omega arith)
 reason_lasts s s' next next' rows ev up (inr o) = (
   inr (record { row = o.row; linked = later o.linked; last = above (s.stamp o.row) (s'.stamp o.row) (ev.stamp o.row o.linked) o.last }),
@@ -43,7 +44,8 @@ stamp_search s (r ∷ l) f = dite (dec_lt (s.stamp r / 4) 4611686018427387903)
     (λ y. elim (stamp_search s l (λ n h. f n (inr h))) [ inl o ↦ inl o | inr g ↦ inr (both y g) ])
     (λ z. inl (record { row = r; linked = inr (f r (inl refl)); last = (let w : ¬ s.stamp r / 4 < 4611686018427387903 = z in omega arith) }))
   where
-    both : s.stamp r / 4 < 4611686018427387903 → ((n : ℕ) → In n l → s.stamp n / 4 < 4611686018427387903) → (n : ℕ) → In n (r ∷ l) → s.stamp n / 4 < 4611686018427387903
+    both : s.stamp r / 4 < 4611686018427387903 → ((n : ℕ) → In n l → s.stamp n / 4 < 4611686018427387903) → (n : ℕ) → In n (r ∷ l)
+        → s.stamp n / 4 < 4611686018427387903
     both y g n (inl e) = subst (λ (x : ℕ). s.stamp x / 4 < 4611686018427387903) (sym e) y
     both y g n (inr h) = g n h
 
@@ -54,5 +56,7 @@ stamp_found s next rows ok l = elim (stamp_search s s.linked (λ n h. h)) [ inl 
     each g n (inl z) = let e : s.stamp n ≡ 0 = ap s.stamp z ∙ ok.links.zero_stamp in omega arith
     each g n (inr h) = g n h
 
-pub under_room : (s s' : State) (next next' rows : ℕ) (debts debts' : ℕ → Debt) → Evolves s s' → next ≤ next' → (HasRoom s next rows → DebtOk s debts → DebtOk s' debts') → (HasRoom s next rows → DebtOk s debts) → HasRoom s' next' rows → DebtOk s' debts'
+pub under_room : (s s' : State) (next next' rows : ℕ) (debts debts' : ℕ → Debt) → Evolves s s' → next ≤ next'
+    → (HasRoom s next rows → DebtOk s debts → DebtOk s' debts') → (HasRoom s next rows → DebtOk s debts) → HasRoom s' next' rows
+    → DebtOk s' debts'
 under_room s s' next next' rows debts debts' ev up law ok room = let r = room_before s s' next next' rows ev up room in law r (ok r)

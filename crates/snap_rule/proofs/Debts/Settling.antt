@@ -50,10 +50,14 @@ module _ (s : State) where
 pub all_settled : (s : State) (debts : ℕ → Debt) → TableOk s → DebtOk s debts → ((j : ℕ) → OwesNone s (debts j)) → IsSettledTree s.tree
 all_settled s debts ok debt none = settled_tree s s.tree ok.tree.reads (λ n h. elim (debt.settled n h) [ inl a ↦ a | inr o ↦ absurd (none o.pass n o.owes) ])
 
-pub quiet_shallow : (s : State) (debts : ℕ → Debt) (next rows : ℕ) → TableOk s → (HasRoom s next rows → DebtOk s debts) → HasRoom s next rows → ((j : ℕ) → OwesNone s (debts j)) → size s.tree ≤ 18446744073709551615 → least (depth s.tree) ≤ 2 * length (pairs s.tree)
+pub quiet_shallow : (s : State) (debts : ℕ → Debt) (next rows : ℕ) → TableOk s → (HasRoom s next rows → DebtOk s debts) → HasRoom s next rows
+    → ((j : ℕ) → OwesNone s (debts j)) → size s.tree ≤ 18446744073709551615
+    → least (depth s.tree) ≤ 2 * length (pairs s.tree)
 quiet_shallow s debts next rows ok debt room none small = settled_shallow s.tree (all_settled s debts ok (debt room) none) small
 
-pub cut_cause : (s : State) (debts : ℕ → Debt) (next rows : ℕ) → TableOk s → MayCut s → (HasRoom s next rows → DebtOk s debts) → ((j : ℕ) → OwesNone s (debts j)) → IsImage (cut s) (s.link 0 Right) s.tree × (IsSettledTree s.tree ⊎ HasReason s next rows)
+pub cut_cause : (s : State) (debts : ℕ → Debt) (next rows : ℕ) → TableOk s → MayCut s → (HasRoom s next rows → DebtOk s debts)
+    → ((j : ℕ) → OwesNone s (debts j))
+    → IsImage (cut s) (s.link 0 Right) s.tree × (IsSettledTree s.tree ⊎ HasReason s next rows)
 cut_cause s debts next rows ok may debt none = (
   cut_image s ok.tree ok.links ok.changes may,
   dite (dec_lt next rows)

@@ -31,22 +31,58 @@ silent_owes s s' debts q ok = record {
 }
 
 pub absent_silent : (s : State) (e : Entry) → IsSilent s (absent_confirmed s e)
-absent_silent s e = record { linked = λ n h. h; stamp = λ n. refl; tree = refl; live = λ n l. same_live s (absent_confirmed s e) n refl refl l; settled = λ n h a. a }
+absent_silent s e = record {
+  linked = λ n h. h;
+  stamp = λ n. refl;
+  tree = refl;
+  live = λ n l. same_live s (absent_confirmed s e) n refl refl l;
+  settled = λ n h a. a;
+}
 
 pub lock_silent : (s : State) (row x : ℕ) → IsSilent s (lock_stored s row x)
-lock_silent s row x = record { linked = λ n h. h; stamp = λ n. refl; tree = refl; live = λ n l. same_live s (lock_stored s row x) n refl refl l; settled = λ n h a. a }
+lock_silent s row x = record {
+  linked = λ n h. h;
+  stamp = λ n. refl;
+  tree = refl;
+  live = λ n l. same_live s (lock_stored s row x) n refl refl l;
+  settled = λ n h a. a;
+}
 
 pub header_silent : (s : State) (g a w : ℕ) → IsSilent s (header_stored s g a w)
-header_silent s g a w = record { linked = λ n h. h; stamp = λ n. refl; tree = refl; live = λ n l. same_live s (header_stored s g a w) n refl refl l; settled = λ n h x. x }
+header_silent s g a w = record {
+  linked = λ n h. h;
+  stamp = λ n. refl;
+  tree = refl;
+  live = λ n l. same_live s (header_stored s g a w) n refl refl l;
+  settled = λ n h x. x;
+}
 
 pub splice_silent : (s : State) (parent : ℕ) (d : Side) → IsSilent s (spliced s parent d)
-splice_silent s parent d = record { linked = λ n h. h; stamp = λ n. refl; tree = refl; live = λ n l. same_live s (spliced s parent d) n refl refl l; settled = λ n h x. x }
+splice_silent s parent d = record {
+  linked = λ n h. h;
+  stamp = λ n. refl;
+  tree = refl;
+  live = λ n l. same_live s (spliced s parent d) n refl refl l;
+  settled = λ n h x. x;
+}
 
 pub lower_silent : (s : State) (row : ℕ) (d : Side) (raised : ℕ) → IsSilent s (lowered_linked s row d raised)
-lower_silent s row d raised = record { linked = λ n h. h; stamp = λ n. refl; tree = refl; live = λ n l. same_live s (lowered_linked s row d raised) n refl refl l; settled = λ n h x. x }
+lower_silent s row d raised = record {
+  linked = λ n h. h;
+  stamp = λ n. refl;
+  tree = refl;
+  live = λ n l. same_live s (lowered_linked s row d raised) n refl refl l;
+  settled = λ n h x. x;
+}
 
 pub lift_silent : (s : State) (row : ℕ) (d : Side) (raised : ℕ) → IsSilent s (raised_linked s row d raised)
-lift_silent s row d raised = record { linked = λ n h. h; stamp = λ n. refl; tree = refl; live = λ n l. same_live s (raised_linked s row d raised) n refl refl l; settled = λ n h x. x }
+lift_silent s row d raised = record {
+  linked = λ n h. h;
+  stamp = λ n. refl;
+  tree = refl;
+  live = λ n l. same_live s (raised_linked s row d raised) n refl refl l;
+  settled = λ n h x. x;
+}
 
 -- a row of its own is filled
 pub own_silent : (s : State) (row k b h v : ℕ) (l : Side → ℕ) → TableOk s → MayStoreOwn s row → IsSilent s (own_stored s row k b h v l)

@@ -73,11 +73,14 @@ module _ (s : State) (views : List View) (id : ℕ) (v w : View) (debts : ℕ �
   doing : DebtDoing s v.doing (debts v.who)
   doing = step.debt.doing id v step.at
 
-  whole : (s' : State) (d : Debt) → Evolves s s' → LeavesOthers s s' v.who → (HasRoom s next rows → DebtOk s debts → Owing s' debts v.who d) → DebtDoing s' w.doing d → DebtHolds s' (with_seat views id w) (changed debts v.who d) next rows
+  whole : (s' : State) (d : Debt) → Evolves s s' → LeavesOthers s s' v.who → (HasRoom s next rows → DebtOk s debts → Owing s' debts v.who d)
+      → DebtDoing s' w.doing d
+      → DebtHolds s' (with_seat views id w) (changed debts v.who d) next rows
   whole s' d ev leaves law h = debt_holds s s' views id v w debts (changed debts v.who d) next next rows step.holds step.debt step.at step.who ev (omega arith) leaves
       (λ k z. changed_other debts v.who d k z) law (subst (DebtDoing s' w.doing) (sym (changed_same debts v.who d)) h)
 
-  pub store_whole : (row : ℕ) (e : Entry) → MayStoreValue s row e → s.lock row ≡ v.who + 1 → v.doing ≡ Nothing → w.doing ≡ Nothing → (HasRoom s next rows → call_value e.call ≡ None → OwesNone s (debts v.who))
+  pub store_whole : (row : ℕ) (e : Entry) → MayStoreValue s row e → s.lock row ≡ v.who + 1 → v.doing ≡ Nothing → w.doing ≡ Nothing
+      → (HasRoom s next rows → call_value e.call ≡ None → OwesNone s (debts v.who))
       → DebtHolds (value_stored s row e) (with_seat views id w) (changed debts v.who (stored_debt s row (call_key e.call) (call_value e.call) (debts v.who))) next rows
   store_whole row e may held before afterwards none =
       let rest : (debts v.who).turning ≡ None = subst (λ (g : Doing). DebtDoing s g (debts v.who)) before doing in
@@ -89,7 +92,8 @@ module _ (s : State) (views : List View) (id : ℕ) (v w : View) (debts : ℕ �
       at_rest q None = refl
       at_rest q (Some x) = q
 
-  pub shrink_whole : (parent : ℕ) (p : Side) (row : ℕ) (d : Side) (raised key : ℕ) → MayMarkShrinking s row → ShrinkAims s (debts v.who) parent p row d raised key next rows → s.lock row ≡ v.who + 1 → w.doing ≡ Shrunk parent p row d raised
+  pub shrink_whole : (parent : ℕ) (p : Side) (row : ℕ) (d : Side) (raised key : ℕ) → MayMarkShrinking s row
+      → ShrinkAims s (debts v.who) parent p row d raised key next rows → s.lock row ≡ v.who + 1 → w.doing ≡ Shrunk parent p row d raised
       → DebtHolds (shrinking_marked s row) (with_seat views id w) (changed debts v.who (shrink_debt (shrinking_marked s row) row key (debts v.who))) next rows
   shrink_whole parent p row d raised key may aims held afterwards =
       whole (shrinking_marked s row) (shrink_debt (shrinking_marked s row) row key (debts v.who)) (shrink_evolves s row may) (shrink_leaves s v.who row held)
@@ -98,7 +102,8 @@ module _ (s : State) (views : List View) (id : ℕ) (v w : View) (debts : ℕ �
       (subst (λ (g : Doing). DebtDoing (shrinking_marked s row) g (shrink_debt (shrinking_marked s row) row key (debts v.who))) (sym afterwards)
       (record { turning = refl; owes = noted_here (shrinking_marked s row) row (debts v.who).list (not_zero s step.holds.table row may.live.stands) }, elim aims.key_is [ inl y ↦ inl (ap Some y) | inr y ↦ inr (ap Some y) ]))
 
-  pub raise_whole : (parent : ℕ) (p : Side) (row : ℕ) (d : Side) (raised : ℕ) → MayLinkParent s parent p row d raised → v.doing ≡ Lifted parent p row d raised → w.doing ≡ Turned row → s.lock parent ≡ v.who + 1
+  pub raise_whole : (parent : ℕ) (p : Side) (row : ℕ) (d : Side) (raised : ℕ) → MayLinkParent s parent p row d raised
+      → v.doing ≡ Lifted parent p row d raised → w.doing ≡ Turned row → s.lock parent ≡ v.who + 1
       → DebtHolds (parent_linked s parent p row d raised) (with_seat views id w) (changed debts v.who (raise_debt s parent row raised (debts v.who))) next rows
   raise_whole parent p row d raised may before afterwards held =
       let t : Turning s (debts v.who) row × AimsAtTurn s (debts v.who) row raised = subst (λ (g : Doing). DebtDoing s g (debts v.who)) before doing in
@@ -108,7 +113,8 @@ module _ (s : State) (views : List View) (id : ℕ) (v w : View) (debts : ℕ �
       (λ room ok. raise_owes s debts v.who parent p row d raised step.holds.table ok may (record { turning = t.0.turning; to_do = t.1; free = (free row row_held, free raised raised_held, free parent held) }))
       (subst (λ (g : Doing). DebtDoing (parent_linked s parent p row d raised) g (raise_debt s parent row raised (debts v.who))) (sym afterwards) (raise_turns s parent p row d raised (debts v.who) (not_zero s step.holds.table row may.live.stands)))
 
-  pub clear_whole : (row : ℕ) → MayClearShrinking s row → v.doing ≡ Turned row → w.doing ≡ Nothing → DebtHolds (shrinking_cleared s row) (with_seat views id w) (changed debts v.who (clear_debt (shrinking_cleared s row) row (debts v.who))) next rows
+  pub clear_whole : (row : ℕ) → MayClearShrinking s row → v.doing ≡ Turned row → w.doing ≡ Nothing
+      → DebtHolds (shrinking_cleared s row) (with_seat views id w) (changed debts v.who (clear_debt (shrinking_cleared s row) row (debts v.who))) next rows
   clear_whole row may before afterwards =
       let t : Turning s (debts v.who) row = subst (λ (g : Doing). DebtDoing s g (debts v.who)) before doing in
       let held : s.lock row ≡ v.who + 1 = (step.holds.each id v step.at).held row (subst (λ (g : Doing). Concerns g row) (sym before) refl) in
@@ -119,22 +125,28 @@ module _ (s : State) (views : List View) (id : ℕ) (v w : View) (debts : ℕ �
   at_rest_before : v.doing ≡ Nothing → (debts v.who).turning ≡ None
   at_rest_before before = subst (λ (g : Doing). DebtDoing s g (debts v.who)) before doing
 
-  pub leaf_whole : (parent : ℕ) (d : Side) (row : ℕ) (e : Entry) → MayLinkLeaf s parent d row e → s.lock parent ≡ v.who + 1 → w.doing ≡ Nothing → (HasRoom s next rows → OwesNone s (debts v.who))
+  pub leaf_whole : (parent : ℕ) (d : Side) (row : ℕ) (e : Entry) → MayLinkLeaf s parent d row e → s.lock parent ≡ v.who + 1 → w.doing ≡ Nothing
+      → (HasRoom s next rows → OwesNone s (debts v.who))
       → DebtHolds (leaf_linked s parent d row e) (with_seat views id w) (changed debts v.who (leaf_debt s parent (call_key e.call))) next rows
   leaf_whole parent d row e may held afterwards none =
       whole (leaf_linked s parent d row e) (leaf_debt s parent (call_key e.call)) (leaf_evolves s parent d row e may) (leaf_leaves s v.who parent d row e may held)
       (λ room ok. leaf_owes s debts v.who parent d row e step.holds.table ok may (free parent held) (none room))
       (subst (λ (g : Doing). DebtDoing (leaf_linked s parent d row e) g (leaf_debt s parent (call_key e.call))) (sym afterwards) refl)
 
-  pub silent_whole : (s' : State) (next' : ℕ) → Evolves s s' → next ≤ next' → LeavesOthers s s' v.who → IsSilent s s' → DebtDoing s' w.doing (debts v.who) → DebtHolds s' (with_seat views id w) debts next' rows
+  pub silent_whole : (s' : State) (next' : ℕ) → Evolves s s' → next ≤ next' → LeavesOthers s s' v.who → IsSilent s s'
+      → DebtDoing s' w.doing (debts v.who)
+      → DebtHolds s' (with_seat views id w) debts next' rows
   silent_whole s' next' ev up leaves q h = debt_holds s s' views id v w debts debts next next' rows step.holds step.debt step.at step.who ev up leaves (λ k z. refl) (λ room ok. silent_owes s s' debts q ok) h
 
-  pub copy_whole : (parent : ℕ) (d : Side) (row copy : ℕ) → MayLinkCopy s parent d row copy → s.lock parent ≡ v.who + 1 → v.doing ≡ Nothing → w.doing ≡ Nothing → DebtHolds (copy_linked s parent d row copy) (with_seat views id w) debts next rows
+  pub copy_whole : (parent : ℕ) (d : Side) (row copy : ℕ) → MayLinkCopy s parent d row copy → s.lock parent ≡ v.who + 1 → v.doing ≡ Nothing
+      → w.doing ≡ Nothing
+      → DebtHolds (copy_linked s parent d row copy) (with_seat views id w) debts next rows
   copy_whole parent d row copy may held before afterwards = debt_holds s (copy_linked s parent d row copy) views id v w debts debts next next rows step.holds step.debt step.at step.who (copy_evolves s parent d row copy may) (omega arith)
       (copy_leaves s v.who parent d row copy may held) (λ k z. refl) (λ room ok. copy_owes s debts parent d row copy step.holds.table ok may)
       (subst (λ (g : Doing). DebtDoing (copy_linked s parent d row copy) g (debts v.who)) (sym afterwards) (at_rest_before before))
 
-  pub unlink_whole : (parent : ℕ) (d : Side) (row only : ℕ) → MayMarkUnlinked s parent d row → s.lock parent ≡ v.who + 1 → s.lock row ≡ v.who + 1 → w.doing ≡ Unlinked parent d row only
+  pub unlink_whole : (parent : ℕ) (d : Side) (row only : ℕ) → MayMarkUnlinked s parent d row → s.lock parent ≡ v.who + 1 → s.lock row ≡ v.who + 1
+      → w.doing ≡ Unlinked parent d row only
       → (HasRoom s next rows → OwesNone s (debts v.who) ⊎ Aims s (debts v.who) row ⊎ Aims s (debts v.who) parent)
       → DebtHolds (unlinked_marked s parent d row) (with_seat views id w) (changed debts v.who (aimed s parent (noted s parent (debts v.who).list))) next rows
   unlink_whole parent d row only may held row_held afterwards path =
@@ -143,21 +155,26 @@ module _ (s : State) (views : List View) (id : ℕ) (v w : View) (debts : ℕ �
       (λ room ok. unlink_owes s debts v.who parent d row step.holds.table ok may (path room) (free parent held))
       (subst (λ (g : Doing). DebtDoing (unlinked_marked s parent d row) g (aimed s parent (noted s parent (debts v.who).list))) (sym afterwards) (none_turns s parent (noted s parent (debts v.who).list)))
 
-  pub height_whole : (parent : ℕ) (d : Side) (row h : ℕ) → MayStoreHeight s row → s.lock parent ≡ v.who + 1 → v.doing ≡ Nothing → w.doing ≡ Nothing → (HasRoom s next rows → IsFree debts v.who parent → MayOweHeight s debts v.who parent d row h)
+  pub height_whole : (parent : ℕ) (d : Side) (row h : ℕ) → MayStoreHeight s row → s.lock parent ≡ v.who + 1 → v.doing ≡ Nothing → w.doing ≡ Nothing
+      → (HasRoom s next rows → IsFree debts v.who parent → MayOweHeight s debts v.who parent d row h)
       → DebtHolds (height_stored s row h) (with_seat views id w) (changed debts v.who (height_debt s parent row (debts v.who))) next rows
   height_whole parent d row h may held before afterwards owe =
       whole (height_stored s row h) (height_debt s parent row (debts v.who)) (height_evolves s row h may) (height_leaves s v.who row h)
       (λ room ok. height_owes s debts v.who parent d row h step.holds.table ok (owe room (free parent held)))
       (subst (λ (g : Doing). DebtDoing (height_stored s row h) g (height_debt s parent row (debts v.who))) (sym afterwards) (at_rest_before before))
 
-  alone_whole : (d : Debt) → w.doing ≡ Nothing → d.turning ≡ None → (HasRoom s next rows → DebtOk s debts → Owing s debts v.who d) → DebtHolds s (with_seat views id w) (changed debts v.who d) next rows
+  alone_whole : (d : Debt) → w.doing ≡ Nothing → d.turning ≡ None → (HasRoom s next rows → DebtOk s debts → Owing s debts v.who d)
+      → DebtHolds s (with_seat views id w) (changed debts v.who d) next rows
   alone_whole d afterwards rest law = whole s d (same_evolves s) (same_leaves s v.who) law (subst (λ (g : Doing). DebtDoing s g d) (sym afterwards) rest)
 
-  pub aim_whole : (row : ℕ) → w.doing ≡ Nothing → (HasRoom s next rows → MayAim s (debts v.who) row) → DebtHolds s (with_seat views id w) (changed debts v.who (aimed s row (debts v.who).list)) next rows
+  pub aim_whole : (row : ℕ) → w.doing ≡ Nothing → (HasRoom s next rows → MayAim s (debts v.who) row)
+      → DebtHolds s (with_seat views id w) (changed debts v.who (aimed s row (debts v.who).list)) next rows
   aim_whole row afterwards may = alone_whole (aimed s row (debts v.who).list) afterwards (none_turns s row (debts v.who).list) (λ room ok. aim_owes s debts v.who step.holds.table ok row (may room))
 
-  pub up_whole : (parent : ℕ) (d : Side) (row : ℕ) → w.doing ≡ Nothing → (HasRoom s next rows → MayPassUp s (debts v.who) parent d row) → DebtHolds s (with_seat views id w) (changed debts v.who (aimed s parent (taken row (debts v.who).list))) next rows
+  pub up_whole : (parent : ℕ) (d : Side) (row : ℕ) → w.doing ≡ Nothing → (HasRoom s next rows → MayPassUp s (debts v.who) parent d row)
+      → DebtHolds s (with_seat views id w) (changed debts v.who (aimed s parent (taken row (debts v.who).list))) next rows
   up_whole parent d row afterwards may = alone_whole (aimed s parent (taken row (debts v.who).list)) afterwards (none_turns s parent (taken row (debts v.who).list)) (λ room ok. up_owes s debts v.who step.holds.table ok parent d row (may room))
 
-  pub leave_whole : w.doing ≡ Nothing → (HasRoom s next rows → OwesNone s (debts v.who)) → DebtHolds s (with_seat views id w) (changed debts v.who no_debt) next rows
+  pub leave_whole : w.doing ≡ Nothing → (HasRoom s next rows → OwesNone s (debts v.who))
+      → DebtHolds s (with_seat views id w) (changed debts v.who no_debt) next rows
   leave_whole afterwards none = alone_whole no_debt afterwards refl (λ room ok. leave_owes s debts v.who ok (none room))

@@ -36,7 +36,8 @@ use Rattle.snap_rule.proofs.Debts.Kinds.{owing, parent_is_live, other_free, shar
 use Rattle.snap_rule.proofs.Debts.Turns.{not_zero}
 
 -- the word of a link that is in no change
-pub true_link : (s : State) (parent : ℕ) (d : Side) → TableOk s → IsParent s parent d → s.pending parent d ≡ plain → s.link parent d ≡ s.links parent d
+pub true_link : (s : State) (parent : ℕ) (d : Side) → TableOk s → IsParent s parent d → s.pending parent d ≡ plain
+    → s.link parent d ≡ s.links parent d
 true_link s parent d ok live e = subst (Fits s parent d) e (ok.changes.fits parent d (place live))
   where
     place : IsParent s parent d → (parent ≡ 0) ⊎ Stands parent s.tree
@@ -138,7 +139,8 @@ module _ (s : State) (debts : ℕ → Debt) (parent : ℕ) (d : Side) (row copy 
   at_parent_link : relink (changed s.links copy (s.link copy)) parent d copy parent d ≡ copy
   at_parent_link = relink_same (changed s.links copy (s.link copy)) parent d copy
 
-  copy_away : (n : ℕ) (x : Side) → Stands n s.tree → ((n ≡ parent) × (x ≡ d) → ⊥) → relink (changed s.links copy (s.link copy)) parent d copy n x ≡ s.links n x
+  copy_away : (n : ℕ) (x : Side) → Stands n s.tree → ((n ≡ parent) × (x ≡ d) → ⊥)
+      → relink (changed s.links copy (s.link copy)) parent d copy n x ≡ s.links n x
   copy_away n x h z = relink_away (changed s.links copy (s.link copy)) parent d copy n x z ∙ ap (λ (f : Side → ℕ). f x) (changed_other s.links copy (s.link copy) n (copy_fresh n h))
 
   there_link : (n : ℕ) (x : Side) → Stands n s.tree → s.links n x ≢ 0 → relink (changed s.links copy (s.link copy)) parent d copy n x ≢ 0
@@ -223,11 +225,17 @@ module _ (s : State) (debts : ℕ → Debt) (id parent : ℕ) (d : Side) (row : 
         ])
       ]
 
-  unlink_listed : (n x : ℕ) → IsListed n x (aimed s parent (noted s parent (debts id).list)).list → (parent ≢ 0) × (n ≡ parent) × (x ≡ s.stamp n) ⊎ IsListed n x (debts id).list
+  unlink_listed : (n x : ℕ) → IsListed n x (aimed s parent (noted s parent (debts id).list)).list
+      → (parent ≢ 0) × (n ≡ parent) × (x ≡ s.stamp n) ⊎ IsListed n x (debts id).list
   unlink_listed n x h = noted_back s parent (debts id).list n x (aimed_list s parent (noted s parent (debts id).list) n x h).1
 
-  unlink_path : (n : ℕ) → n ≢ row → parent ≢ 0 → OnWay s.tree (s.key parent) n → OnPath (unlinked_marked s parent d row) (aimed s parent (noted s parent (debts id).list)) n
-  unlink_path n z y w = record { key = s.key parent; to_do = aimed_key s parent (noted s parent (debts id).list) y; way = unlink_way (s.key parent) n z w }
+  unlink_path : (n : ℕ) → n ≢ row → parent ≢ 0 → OnWay s.tree (s.key parent) n
+      → OnPath (unlinked_marked s parent d row) (aimed s parent (noted s parent (debts id).list)) n
+  unlink_path n z y w = record {
+    key = s.key parent;
+    to_do = aimed_key s parent (noted s parent (debts id).list) y;
+    way = unlink_way (s.key parent) n z w;
+  }
 
   parent_apart : (n : ℕ) → n ≡ parent → n ≢ row
   parent_apart n e q = may.apart (sym e ∙ q)
@@ -317,7 +325,8 @@ module _ (s : State) (debts : ℕ → Debt) (id parent : ℕ) (p : Side) (row : 
       ])
 
   -- what is listed
-  raise_listed : (n x : ℕ) → IsListed n x (raise_debt s parent row raised (debts id)).list → (x ≡ s.stamp n) × IsLive s n × OnWay turned_state.tree (s.key row) n × IsFree debts id n ⊎ IsListed n x (debts id).list
+  raise_listed : (n x : ℕ) → IsListed n x (raise_debt s parent row raised (debts id)).list
+      → (x ≡ s.stamp n) × IsLive s n × OnWay turned_state.tree (s.key row) n × IsFree debts id n ⊎ IsListed n x (debts id).list
   raise_listed n x h = elim (noted_back s row (noted s raised (noted s parent (debts id).list)) n x h) [
     | inl y ↦ inl (y.2, subst (IsLive s) (sym y.1) may.live, subst (λ (r : ℕ). OnWay turned_state.tree (s.key row) r) (sym y.1) row_way, other_free debts id row n owe.free.0 y.1)
     | inr h ↦ (elim (noted_back s raised (noted s parent (debts id).list) n x h) [

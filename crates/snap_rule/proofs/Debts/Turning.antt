@@ -24,7 +24,9 @@ use Rattle.snap_rule.specs.Doing.{DoingOk, Concerns}
 use Rattle.snap_rule.specs.declared.change.Doing.TheVariants.{Nothing, Unlinked, Shrunk, Lowered, Lifted, Turned}
 
 -- unmarked rows: what evolves keeps them on their paths
-pub unmarked_stays : (s s' : State) (n : ℕ) → TableOk s → Evolves s s' → s'.epoch ≡ s.epoch → IsLive s n → IsUnmarked (s.stamp n) → s'.stamp n ≡ s.stamp n → IsLive s' n × ((k : ℕ) → OnWay s.tree k n → OnWay s'.tree k n)
+pub unmarked_stays : (s s' : State) (n : ℕ) → TableOk s → Evolves s s' → s'.epoch ≡ s.epoch → IsLive s n → IsUnmarked (s.stamp n)
+    → s'.stamp n ≡ s.stamp n
+    → IsLive s' n × ((k : ℕ) → OnWay s.tree k n → OnWay s'.tree k n)
 unmarked_stays s s' n ok ev same l m q =
     let own : ¬ IsShared s' n = same_live s s' n (ev.birth n (ok.tree.rows n l.stands).0) same l in
     let way : (k : ℕ) → OnWay s.tree k n → OnWay s'.tree k n = λ k w. placed k own (ev.place n k w l.own m q) in
@@ -40,23 +42,30 @@ pub free_known : (s : State) (debts : ℕ → Debt) (id n : ℕ) → Turns s deb
 free_known s debts id n turns held j z t = z (let e = turns j n t in omega arith)
 
 -- what a pass that has marked a row knows of its debt
-pub shrink_turns : (s : State) (debts : ℕ → Debt) (id parent : ℕ) (p : Side) (row : ℕ) (d : Side) (raised key : ℕ) → TableOk s → MayOweTurn s debts id parent p row d raised key
+pub shrink_turns : (s : State) (debts : ℕ → Debt) (id parent : ℕ) (p : Side) (row : ℕ) (d : Side) (raised key : ℕ) → TableOk s
+    → MayOweTurn s debts id parent p row d raised key
     → Turning (shrinking_marked s row) (shrink_debt (shrinking_marked s row) row key (debts id)) row × AimsAtTurn (shrinking_marked s row) (shrink_debt (shrinking_marked s row) row key (debts id)) row raised
 shrink_turns s debts id parent p row d raised key ok may = (
   record { turning = refl; owes = noted_here (shrinking_marked s row) row (debts id).list (not_zero s ok row may.live.stands) },
   elim may.to_do [ inl y ↦ inl (ap Some y.0) | inr y ↦ inr (ap Some y.0) ],
 )
 
-pub raise_turns : (s : State) (parent : ℕ) (p : Side) (row : ℕ) (d : Side) (raised : ℕ) (v : Debt) → row ≢ 0 → Turning (parent_linked s parent p row d raised) (raise_debt s parent row raised v) row
+pub raise_turns : (s : State) (parent : ℕ) (p : Side) (row : ℕ) (d : Side) (raised : ℕ) (v : Debt) → row ≢ 0
+    → Turning (parent_linked s parent p row d raised) (raise_debt s parent row raised v) row
 raise_turns s parent p row d raised v z = record { turning = refl; owes = noted_here s row (noted s raised (noted s parent v.list)) z }
 
-pub turn_kept : (s s' : State) (v : Debt) (row raised : ℕ) → Evolves s s' → In row s.linked → In raised s.linked → s'.stamp row ≡ s.stamp row → Turning s v row × AimsAtTurn s v row raised → Turning s' v row × AimsAtTurn s' v row raised
+pub turn_kept : (s s' : State) (v : Debt) (row raised : ℕ) → Evolves s s' → In row s.linked → In raised s.linked → s'.stamp row ≡ s.stamp row
+    → Turning s v row × AimsAtTurn s v row raised
+    → Turning s' v row × AimsAtTurn s' v row raised
 turn_kept s s' v row raised ev h i e t = (
   record { turning = t.0.turning; owes = subst (λ (x : ℕ). IsListed row x v.list) (sym e) t.0.owes },
   elim t.1 [ inl y ↦ inl (y ∙ ap Some (sym (ev.key row h))) | inr y ↦ inr (y ∙ ap Some (sym (ev.key raised i))) ],
 )
 
-pub turns_kept : (s s' : State) (debts debts' : ℕ → Debt) (id : ℕ) → ((j : ℕ) → j ≢ id → debts' j ≡ debts j) → ((j n : ℕ) → j ≢ id → (debts j).turning ≡ Some n → s'.lock n ≡ s.lock n) → ((n : ℕ) → (debts' id).turning ≡ Some n → s'.lock n ≡ id + 1) → Turns s debts → Turns s' debts'
+pub turns_kept : (s s' : State) (debts debts' : ℕ → Debt) (id : ℕ) → ((j : ℕ) → j ≢ id → debts' j ≡ debts j)
+    → ((j n : ℕ) → j ≢ id → (debts j).turning ≡ Some n → s'.lock n ≡ s.lock n) → ((n : ℕ) → (debts' id).turning ≡ Some n → s'.lock n ≡ id + 1)
+    → Turns s debts
+    → Turns s' debts'
 turns_kept s s' debts debts' id theirs locks own ok j n t = dite (ℕ_discrete j id)
     (λ e. subst (λ (x : ℕ). s'.lock n ≡ x + 1) (sym e) (own n (subst (λ (x : ℕ). (debts' x).turning ≡ Some n) e t)))
     (λ e. let u : (debts j).turning ≡ Some n = sym (ap (λ (v : Debt). v.turning) (theirs j e)) ∙ t in locks j n e u ∙ ok j n u)
@@ -94,7 +103,8 @@ module _ (s s' : State) (ok : TableOk s) (ev : Evolves s s') where
   still : (v : Debt) (row : ℕ) → s'.stamp row ≡ s.stamp row → Turning s v row → Turning s' v row
   still v row e t = record { turning = t.turning; owes = subst (λ (x : ℕ). IsListed row x v.list) (sym e) t.owes }
 
-  pub debt_doing_kept : (g : Doing) (v : Debt) → DoingOk s g → ((n : ℕ) → In n s.linked → Concerns g n → s'.stamp n ≡ s.stamp n) → DebtDoing s g v → DebtDoing s' g v
+  pub debt_doing_kept : (g : Doing) (v : Debt) → DoingOk s g → ((n : ℕ) → In n s.linked → Concerns g n → s'.stamp n ≡ s.stamp n) → DebtDoing s g v
+      → DebtDoing s' g v
   debt_doing_kept Nothing v d f h = h
   debt_doing_kept (Unlinked parent x row only) v d f h = h
   debt_doing_kept (Shrunk parent p row x raised) v d f h = let r = linked_live row d.turn.live in turn_kept s s' v row raised ev r (linked_live raised d.turn.raised_live) (f row r (inr (inl refl))) h

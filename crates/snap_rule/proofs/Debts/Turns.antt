@@ -107,7 +107,8 @@ module _ (s s' : State) (debts : ℕ → Debt) (id row : ℕ) (w : Debt) (ok : T
   listed : (n x : ℕ) → IsListed n x w.list → (n ≡ row) × (x ≡ s'.stamp n) ⊎ IsListed n x (debts id).list
   listed n x i = elim (noted_back s' row (debts id).list n x (subst (IsListed n x) list i)) [ inl y ↦ inl (y.1, y.2) | inr y ↦ inr y ]
 
-  pub marked_step : OnPath s w row → ((n : ℕ) → Owes s (debts id) n → OnPath s w n) → ((n : ℕ) → w.turning ≡ Some n → n ≡ row) → DebtStep s s' debts id w
+  pub marked_step : OnPath s w row → ((n : ℕ) → Owes s (debts id) n → OnPath s w n) → ((n : ℕ) → w.turning ≡ Some n → n ≡ row)
+      → DebtStep s s' debts id w
   marked_step here there turns = record {
     grows = marked_grows;
     others = λ n l q t. (marked_live n l, λ k y. subst (λ (x : State). OnWay x.tree k n) (sym same_tree) y);
@@ -153,7 +154,8 @@ module _ (s : State) (debts : ℕ → Debt) (id parent : ℕ) (p : Side) (row : 
       some_row n e = cc e
 
 -- and cleared
-pub clear_owes : (s : State) (debts : ℕ → Debt) (id row : ℕ) → TableOk s → DebtOk s debts → MayClearShrinking s row → Owes s (debts id) row → IsFree debts id row
+pub clear_owes : (s : State) (debts : ℕ → Debt) (id row : ℕ) → TableOk s → DebtOk s debts → MayClearShrinking s row → Owes s (debts id) row
+    → IsFree debts id row
     → Owing (shrinking_cleared s row) debts id (clear_debt (shrinking_cleared s row) row (debts id))
 clear_owes s debts id row ok debt may o free = owing s (shrinking_cleared s row) debts id (clear_debt (shrinking_cleared s row) row (debts id)) debt
     (marked_step s (shrinking_cleared s row) debts id row (clear_debt (shrinking_cleared s row) row (debts id)) ok debt may.live free refl

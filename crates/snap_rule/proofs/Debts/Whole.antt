@@ -43,7 +43,8 @@ search_views (x ∷ xs) k = dite (ℕ_discrete x.who k)
     both y g zero u e q = let f : x ≡ u = cc e in y (ap (λ (r : View). r.who) f ∙ q)
     both y g (suc j) u e q = g j u e q
 
-pub turns_known : (s : State) (views : List View) (debts : ℕ → Debt) (next rows : ℕ) → Holds s views → DebtHolds s views debts next rows → Turns s debts
+pub turns_known : (s : State) (views : List View) (debts : ℕ → Debt) (next rows : ℕ) → Holds s views → DebtHolds s views debts next rows
+    → Turns s debts
 turns_known s views debts next rows ok debt j n t = elim (search_views views j) [
   | inl f ↦ (let u = f.view in
       let c = turned_row s u.doing (debts u.who) n (debt.doing f.seat u f.at) (subst (λ (x : ℕ). (debts x).turning ≡ Some n) (sym f.who) t) in
@@ -54,8 +55,9 @@ turns_known s views debts next rows ok debt j n t = elim (search_views views j) 
     none : debts j ≡ no_debt → s.lock n ≡ j + 1
     none e = let q : None ≡ Some n = sym (ap (λ (v : Debt). v.turning) e) ∙ t in cc q
 
-pub debt_holds : (s s' : State) (views : List View) (id : ℕ) (v w : View) (debts debts' : ℕ → Debt) (next next' rows : ℕ) → Holds s views → DebtHolds s views debts next rows → at_seat views id ≡ Some v → w.who ≡ v.who
-    → Evolves s s' → next ≤ next' → LeavesOthers s s' v.who → ((k : ℕ) → k ≢ v.who → debts' k ≡ debts k) → (HasRoom s next rows → DebtOk s debts → DebtOk s' debts') → DebtDoing s' w.doing (debts' v.who)
+pub debt_holds : (s s' : State) (views : List View) (id : ℕ) (v w : View) (debts debts' : ℕ → Debt) (next next' rows : ℕ) → Holds s views
+    → DebtHolds s views debts next rows → at_seat views id ≡ Some v → w.who ≡ v.who → Evolves s s' → next ≤ next' → LeavesOthers s s' v.who
+    → ((k : ℕ) → k ≢ v.who → debts' k ≡ debts k) → (HasRoom s next rows → DebtOk s debts → DebtOk s' debts') → DebtDoing s' w.doing (debts' v.who)
     → DebtHolds s' (with_seat views id w) debts' next' rows
 debt_holds s s' views id v w debts debts' next next' rows ok debt at who ev up leaves theirs law doing = record {
   owing = λ room. let r = room_before s s' next next' rows ev up room in law r (debt.owing r);

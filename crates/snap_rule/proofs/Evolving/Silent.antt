@@ -24,7 +24,8 @@ use Rattle.snap_rule.proofs.Trees.Ways.{way_with_height, way_grown}
 use Rattle.snap_rule.proofs.Evolving.Telling.{not_shared, stamp_up}
 
 -- a link of row 0 or of a live row is another
-link_evolves : (s : State) (r : ℕ) (d : Side) (v : ℕ) (p : ℕ → Side → Change) → IsParent s r d → s.writers ≢ 0 → Evolves s (record s { link = relink s.link r d v; pending = p })
+link_evolves : (s : State) (r : ℕ) (d : Side) (v : ℕ) (p : ℕ → Side → Change) → IsParent s r d → s.writers ≢ 0
+    → Evolves s (record s { link = relink s.link r d v; pending = p })
 link_evolves s r d v p live writing = record {
   history = begins_refl s.history;
   linked = λ n h. h;

@@ -125,7 +125,9 @@ pub word_none : (o : Option ℕ) → value_word o ≡ 0 → o ≡ None
 word_none None e = refl
 word_none (Some v) e = absurd (omega (arith, e))
 
-pub unlink_thin : (s : State) (parent : ℕ) (d : Side) (row : ℕ) → ChangesOk s → MayMarkUnlinked s parent d row → (s.link row Left ≡ 0) ⊎ (s.link row Right ≡ 0) → (s.links row Left ≡ 0) ⊎ (s.links row Right ≡ 0)
+pub unlink_thin : (s : State) (parent : ℕ) (d : Side) (row : ℕ) → ChangesOk s → MayMarkUnlinked s parent d row
+    → (s.link row Left ≡ 0) ⊎ (s.link row Right ≡ 0)
+    → (s.links row Left ≡ 0) ⊎ (s.links row Right ≡ 0)
 unlink_thin s parent d row changes_ok may c = elim c [ inl z ↦ inl (sym (same Left) ∙ z) | inr z ↦ inr (sym (same Right) ∙ z) ]
   where
     same : (e : Side) → s.link row e ≡ s.links row e
@@ -139,7 +141,8 @@ stamp_up s row more n = dite (ℕ_discrete n row)
 pub stamp_moves : (s : State) (row more n : ℕ) → 0 < more → changed s.stamp row (s.stamp row + more) n ≡ s.stamp n → n ≢ row
 stamp_moves s row more n z e q = let f = changed_same s.stamp row (s.stamp row + more) in let g : changed s.stamp row (s.stamp row + more) row ≡ s.stamp row = subst (λ (x : ℕ). changed s.stamp row (s.stamp row + more) x ≡ s.stamp x) q e in omega arith
 
-pub unlink_evolves : (s : State) (parent : ℕ) (d : Side) (row : ℕ) → TreeOk s → ChangesOk s → MayMarkUnlinked s parent d row → Evolves s (unlinked_marked s parent d row)
+pub unlink_evolves : (s : State) (parent : ℕ) (d : Side) (row : ℕ) → TreeOk s → ChangesOk s → MayMarkUnlinked s parent d row
+    → Evolves s (unlinked_marked s parent d row)
 unlink_evolves s parent d row tree_ok changes_ok may =
     let other : (n : ℕ) → n ≢ row → changed s.stamp row (s.stamp row + 1) n ≡ s.stamp n = λ n z. changed_other s.stamp row (s.stamp row + 1) n z in
     record {
@@ -188,7 +191,8 @@ shrink_evolves s row may =
     }
 
 -- the raised row comes into the lowered row's place
-pub raise_evolves : (s : State) (parent : ℕ) (p : Side) (row : ℕ) (d : Side) (raised : ℕ) → TreeOk s → MayLinkParent s parent p row d raised → Evolves s (parent_linked s parent p row d raised)
+pub raise_evolves : (s : State) (parent : ℕ) (p : Side) (row : ℕ) (d : Side) (raised : ℕ) → TreeOk s → MayLinkParent s parent p row d raised
+    → Evolves s (parent_linked s parent p row d raised)
 raise_evolves s parent p row d raised tree_ok may = record {
   history = begins_refl s.history;
   linked = λ n h. h;

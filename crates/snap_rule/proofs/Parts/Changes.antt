@@ -141,16 +141,19 @@ marked_shrinking w h = omega arith
 pub splice_changes : (s : State) (parent : ℕ) (d : Side) (row : ℕ) → ChangesOk s → MaySplice s parent d row → ChangesOk (spliced s parent d)
 splice_changes s parent d row ok may = link_changes s parent d (s.links parent d) plain ok (relink_same s.link parent d (s.links parent d)) (λ z. absurd (z refl))
 
-pub lower_changes : (s : State) (row : ℕ) (d : Side) (raised : ℕ) → ChangesOk s → MayLinkLowered s row d raised → ChangesOk (lowered_linked s row d raised)
+pub lower_changes : (s : State) (row : ℕ) (d : Side) (raised : ℕ) → ChangesOk s → MayLinkLowered s row d raised
+    → ChangesOk (lowered_linked s row d raised)
 lower_changes s row d raised ok may = link_changes s row d (s.link raised (other d)) (lowering (s.link raised (other d))) ok (relink_same s.link row d (s.link raised (other d)), marked_shrinking (s.stamp row) may.marked) (λ z. inr may.live)
 
-pub lift_changes : (s : State) (row : ℕ) (d : Side) (raised : ℕ) → ChangesOk s → MayLinkRaised s row d raised → ChangesOk (raised_linked s row d raised)
+pub lift_changes : (s : State) (row : ℕ) (d : Side) (raised : ℕ) → ChangesOk s → MayLinkRaised s row d raised
+    → ChangesOk (raised_linked s row d raised)
 lift_changes s row d raised ok may = link_changes s raised (other d) row (raising row) ok
     (relink_same s.link raised (other d) row, live_same s raised (other d) row (raising row) ok row may.live, marked_shrinking (s.stamp row) may.marked)
     (λ z. inr may.raised_live)
 
 -- a new row is linked in the place of another row, or of none
-pub copy_changes : (s : State) (parent : ℕ) (d : Side) (row copy : ℕ) → TreeOk s → ChangesOk s → MayLinkCopy s parent d row copy → ChangesOk (copy_linked s parent d row copy)
+pub copy_changes : (s : State) (parent : ℕ) (d : Side) (row copy : ℕ) → TreeOk s → ChangesOk s → MayLinkCopy s parent d row copy
+    → ChangesOk (copy_linked s parent d row copy)
 copy_changes s parent d row copy tree_ok ok may =
     let s' : State = copy_linked s parent d row copy in
     let live : (n : ℕ) → IsLive s n → IsLive s' n = λ n l. record { stands = stands_renamed row copy s.tree n (λ q. l.own (subst (IsShared s) (sym q) may.shared)) l.stands; own = λ y. l.own (record { is_row = y.is_row; older = y.older }) } in
@@ -177,7 +180,8 @@ copy_changes s parent d row copy tree_ok ok may =
     old_row n q (inl z) = inl z
     old_row n q (inr h) = elim (renamed_stands row copy s.tree n h) [ inl e ↦ absurd (q e) | inr x ↦ inr x.1 ]
 
-pub leaf_changes : (s : State) (parent : ℕ) (d : Side) (row : ℕ) (x : Entry) → TreeOk s → ChangesOk s → MayLinkLeaf s parent d row x → ChangesOk (leaf_linked s parent d row x)
+pub leaf_changes : (s : State) (parent : ℕ) (d : Side) (row : ℕ) (x : Entry) → TreeOk s → ChangesOk s → MayLinkLeaf s parent d row x
+    → ChangesOk (leaf_linked s parent d row x)
 leaf_changes s parent d row x tree_ok ok may =
     let s' : State = leaf_linked s parent d row x in
     let live : (n : ℕ) → IsLive s n → IsLive s' n = λ n l. record { stands = stands_grown parent d (leaf_of row x) s.tree n l.stands; own = λ y. l.own (record { is_row = y.is_row; older = y.older }) } in
@@ -203,7 +207,8 @@ leaf_changes s parent d row x tree_ok ok may =
     old_row n q (inl z) = inl z
     old_row n q (inr h) = elim (grown_stands parent d (leaf_of row x) s.tree n h) [ inl e ↦ absurd (q e) | inr y ↦ inr y ]
 
-pub unlink_changes : (s : State) (parent : ℕ) (d : Side) (row : ℕ) → TreeOk s → LinksOk s → ChangesOk s → MayMarkUnlinked s parent d row → ChangesOk (unlinked_marked s parent d row)
+pub unlink_changes : (s : State) (parent : ℕ) (d : Side) (row : ℕ) → TreeOk s → LinksOk s → ChangesOk s → MayMarkUnlinked s parent d row
+    → ChangesOk (unlinked_marked s parent d row)
 unlink_changes s parent d row tree_ok links_ok ok may =
     let s' : State = unlinked_marked s parent d row in
     let lean = thin s s.links row s.tree tree_ok.reads (unlink_thin s parent d row ok may may.one_child) in
@@ -227,11 +232,13 @@ unlink_changes s parent d row tree_ok links_ok ok may =
       ];
     }
   where
-    parent_on : IsParent s parent d → (IsLive s parent → IsLive (unlinked_marked s parent d row) parent) → (parent ≡ 0) ⊎ IsLive (unlinked_marked s parent d row) parent
+    parent_on : IsParent s parent d → (IsLive s parent → IsLive (unlinked_marked s parent d row) parent)
+        → (parent ≡ 0) ⊎ IsLive (unlinked_marked s parent d row) parent
     parent_on (inl z) f = inl z.0
     parent_on (inr l) f = inr (f l)
 
-pub raise_changes : (s : State) (parent : ℕ) (p : Side) (row : ℕ) (d : Side) (raised : ℕ) → ChangesOk s → MayLinkParent s parent p row d raised → ChangesOk (parent_linked s parent p row d raised)
+pub raise_changes : (s : State) (parent : ℕ) (p : Side) (row : ℕ) (d : Side) (raised : ℕ) → ChangesOk s → MayLinkParent s parent p row d raised
+    → ChangesOk (parent_linked s parent p row d raised)
 raise_changes s parent p row d raised ok may =
     let s' : State = parent_linked s parent p row d raised in
     let one : ℕ → Side → ℕ = relink s.links row d (s.link row d) in
@@ -271,7 +278,8 @@ raise_changes s parent p row d raised ok may =
     ]
 
 -- the parent of a row that gets the unlinked mark stays live
-pub parent_after_unlink : (s : State) (parent : ℕ) (d : Side) (row : ℕ) → TreeOk s → ChangesOk s → MayMarkUnlinked s parent d row → IsParent (unlinked_marked s parent d row) parent d
+pub parent_after_unlink : (s : State) (parent : ℕ) (d : Side) (row : ℕ) → TreeOk s → ChangesOk s → MayMarkUnlinked s parent d row
+    → IsParent (unlinked_marked s parent d row) parent d
 parent_after_unlink s parent d row tree_ok ok may = go may.parent_live
   where
     go : IsParent s parent d → IsParent (unlinked_marked s parent d row) parent d

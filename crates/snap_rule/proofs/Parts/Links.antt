@@ -19,7 +19,8 @@ use Rattle.snap_rule.proofs.Updates.{changed_other, same_place, relink_same, rel
 use Rattle.snap_rule.proofs.Trees.Rows.{with_value_stands, with_height_stands, renamed_stands, without_stands, rotated_stands, grown_stands}
 use Rattle.snap_rule.proofs.Evolving.Telling.{not_shared}
 
-link_set : (link : ℕ → Side → ℕ) (r : ℕ) (d : Side) (v : ℕ) (l : List ℕ) (n : ℕ) (e : Side) → (link n e ≡ 0) ⊎ In (link n e) l → (v ≡ 0) ⊎ In v l → (relink link r d v n e ≡ 0) ⊎ In (relink link r d v n e) l
+link_set : (link : ℕ → Side → ℕ) (r : ℕ) (d : Side) (v : ℕ) (l : List ℕ) (n : ℕ) (e : Side) → (link n e ≡ 0) ⊎ In (link n e) l → (v ≡ 0) ⊎ In v l
+    → (relink link r d v n e ≡ 0) ⊎ In (relink link r d v n e) l
 link_set link r d v l n e h i = elim (same_place n r e d) [
   | inl q ↦ subst (λ (x : ℕ). (x ≡ 0) ⊎ In x l) (sym (subst (λ (y : Side). relink link r d v n y ≡ v) (sym q.1) (subst (λ (y : ℕ). relink link r d v y d ≡ v) (sym q.0) (relink_same link r d v)))) i
   | inr z ↦ subst (λ (x : ℕ). (x ≡ 0) ⊎ In x l) (sym (relink_away link r d v n e z)) h
@@ -47,18 +48,43 @@ module _ (s : State) (tree_ok : TreeOk s) (ok : LinksOk s) where
   height_links row x = record { no_zero = ok.no_zero; links = ok.links; births = ok.births; zero_stamp = ok.zero_stamp; zero_left = ok.zero_left }
 
   pub cut_links : LinksOk (cut s)
-  cut_links = record { no_zero = ok.no_zero; links = ok.links; births = λ n h. omega (arith, ok.births n h); zero_stamp = ok.zero_stamp; zero_left = ok.zero_left }
+  cut_links = record {
+    no_zero = ok.no_zero;
+    links = ok.links;
+    births = λ n h. omega (arith, ok.births n h);
+    zero_stamp = ok.zero_stamp;
+    zero_left = ok.zero_left;
+  }
 
   pub unlink_links : (parent : ℕ) (d : Side) (row : ℕ) → IsLive s row → LinksOk (unlinked_marked s parent d row)
-  unlink_links parent d row live = record { no_zero = ok.no_zero; links = ok.links; births = ok.births; zero_stamp = changed_other s.stamp row (s.stamp row + 1) 0 (λ q. ok.no_zero (subst (λ (x : ℕ). In x s.linked) (sym q) (tree_ok.rows row live.stands).0)) ∙ ok.zero_stamp; zero_left = ok.zero_left }
+  unlink_links parent d row live = record {
+    no_zero = ok.no_zero;
+    links = ok.links;
+    births = ok.births;
+    zero_stamp = changed_other s.stamp row (s.stamp row + 1) 0 (λ q. ok.no_zero (subst (λ (x : ℕ). In x s.linked) (sym q) (tree_ok.rows row live.stands).0)) ∙ ok.zero_stamp;
+    zero_left = ok.zero_left;
+  }
 
   pub shrink_links : (row : ℕ) → IsLive s row → LinksOk (shrinking_marked s row)
-  shrink_links row live = record { no_zero = ok.no_zero; links = ok.links; births = ok.births; zero_stamp = changed_other s.stamp row (s.stamp row + 2) 0 (λ q. ok.no_zero (subst (λ (x : ℕ). In x s.linked) (sym q) (tree_ok.rows row live.stands).0)) ∙ ok.zero_stamp; zero_left = ok.zero_left }
+  shrink_links row live = record {
+    no_zero = ok.no_zero;
+    links = ok.links;
+    births = ok.births;
+    zero_stamp = changed_other s.stamp row (s.stamp row + 2) 0 (λ q. ok.no_zero (subst (λ (x : ℕ). In x s.linked) (sym q) (tree_ok.rows row live.stands).0)) ∙ ok.zero_stamp;
+    zero_left = ok.zero_left;
+  }
 
   pub clear_links : (row : ℕ) → IsLive s row → LinksOk (shrinking_cleared s row)
-  clear_links row live = record { no_zero = ok.no_zero; links = ok.links; births = ok.births; zero_stamp = changed_other s.stamp row (s.stamp row + 2) 0 (λ q. ok.no_zero (subst (λ (x : ℕ). In x s.linked) (sym q) (tree_ok.rows row live.stands).0)) ∙ ok.zero_stamp; zero_left = ok.zero_left }
+  clear_links row live = record {
+    no_zero = ok.no_zero;
+    links = ok.links;
+    births = ok.births;
+    zero_stamp = changed_other s.stamp row (s.stamp row + 2) 0 (λ q. ok.no_zero (subst (λ (x : ℕ). In x s.linked) (sym q) (tree_ok.rows row live.stands).0)) ∙ ok.zero_stamp;
+    zero_left = ok.zero_left;
+  }
 
-  pub splice_links : (parent : ℕ) (d : Side) (row : ℕ) → IsParent s parent d → (s.links parent d ≡ 0) ⊎ Stands (s.links parent d) s.tree → LinksOk (spliced s parent d)
+  pub splice_links : (parent : ℕ) (d : Side) (row : ℕ) → IsParent s parent d → (s.links parent d ≡ 0) ⊎ Stands (s.links parent d) s.tree
+      → LinksOk (spliced s parent d)
   splice_links parent d row live h = record {
     no_zero = ok.no_zero;
     links = λ n e i. link_set s.link parent d (s.links parent d) s.linked n e (ok.links n e i) (elim h [ inl z ↦ inl z | inr x ↦ inr (tree_ok.rows (s.links parent d) x).0 ]);
@@ -85,7 +111,8 @@ module _ (s : State) (tree_ok : TreeOk s) (ok : LinksOk s) where
     zero_left = left_stays raised (other d) row (inr may.raised_live);
   }
 
-  pub raise_links : (parent : ℕ) (p : Side) (row : ℕ) (d : Side) (raised : ℕ) → MayLinkParent s parent p row d raised → LinksOk (parent_linked s parent p row d raised)
+  pub raise_links : (parent : ℕ) (p : Side) (row : ℕ) (d : Side) (raised : ℕ) → MayLinkParent s parent p row d raised
+      → LinksOk (parent_linked s parent p row d raised)
   raise_links parent p row d raised may = record {
     no_zero = ok.no_zero;
     links = λ n e i. link_set s.link parent p raised s.linked n e (ok.links n e i) (inr (tree_ok.rows raised may.raised_live.stands).0);
@@ -129,7 +156,9 @@ module _ (s : State) (tree_ok : TreeOk s) (ok : LinksOk s) where
       old n e (inr (inr h)) = more (s.link n e) row s.linked (ok.links n e (inr h))
 
 -- what shared rows of the tree lead to
-pub sharing_kept : (s s' : State) → ((n : ℕ) → Stands n s'.tree → IsShared s' n → Stands n s.tree × IsShared s n) → ((n : ℕ) (d : Side) → Stands n s.tree → IsShared s n → s'.link n d ≡ s.link n d) → ((n : ℕ) → IsShared s n → IsShared s' n) → SharingOk s → SharingOk s'
+pub sharing_kept : (s s' : State) → ((n : ℕ) → Stands n s'.tree → IsShared s' n → Stands n s.tree × IsShared s n)
+    → ((n : ℕ) (d : Side) → Stands n s.tree → IsShared s n → s'.link n d ≡ s.link n d) → ((n : ℕ) → IsShared s n → IsShared s' n) → SharingOk s
+    → SharingOk s'
 sharing_kept s s' f same g ok = record {
   links = λ n d h u z. let b = f n h u in let e = same n d b.0 b.1 in subst (IsShared s') (sym e) (g (s.link n d) (ok.links n d b.0 b.1 (λ q. z (e ∙ q))));
 }
@@ -159,7 +188,8 @@ module _ (s : State) (ok : SharingOk s) where
   pub lift_sharing : (row : ℕ) (d : Side) (raised : ℕ) → MayLinkRaised s row d raised → SharingOk (raised_linked s row d raised)
   lift_sharing row d raised may = sharing_kept s (raised_linked s row d raised) (λ n h u. (h, record { is_row = u.is_row; older = u.older })) (λ n e h u. relink_other s.link raised (other d) row n e (not_shared s raised d n (inr may.raised_live) u)) (λ n u. record { is_row = u.is_row; older = u.older }) ok
 
-  pub raise_sharing : (parent : ℕ) (p : Side) (row : ℕ) (d : Side) (raised : ℕ) → MayLinkParent s parent p row d raised → SharingOk (parent_linked s parent p row d raised)
+  pub raise_sharing : (parent : ℕ) (p : Side) (row : ℕ) (d : Side) (raised : ℕ) → MayLinkParent s parent p row d raised
+      → SharingOk (parent_linked s parent p row d raised)
   raise_sharing parent p row d raised may = sharing_kept s (parent_linked s parent p row d raised) (λ n h u. (rotated_stands row d s.tree n h, record { is_row = u.is_row; older = u.older })) (λ n e h u. relink_other s.link parent p raised n e (not_shared s parent p n may.parent_live u)) (λ n u. record { is_row = u.is_row; older = u.older }) ok
 
   pub copy_sharing : (parent : ℕ) (d : Side) (row copy : ℕ) → MayLinkCopy s parent d row copy → SharingOk (copy_linked s parent d row copy)

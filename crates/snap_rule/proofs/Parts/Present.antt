@@ -46,7 +46,9 @@ module _ (s : State) (links : ℕ → Side → ℕ) (r : ℕ) (d : Side) (l : No
       rw g (leaf_first d m a b l (root_empty s links (child d a b) c.1 (sym c.0 ∙ ap (λ (x : ℕ). links x d) e ∙ none))))
       (λ e. let g : eqb m.row r ≡ false = ne_eqb m.row r e in rw g (below h e (leaf_below a v.3) (leaf_below b v.4)))
     where
-      below : Stands r (node m a b) → m.row ≢ r → (Stands r a → Stands l.row (grown_below r d l a)) → (Stands r b → Stands l.row (grown_below r d l b)) → Stands l.row (node m (grown_below r d l a) (grown_below r d l b))
+      below : Stands r (node m a b) → m.row ≢ r → (Stands r a → Stands l.row (grown_below r d l a))
+          → (Stands r b → Stands l.row (grown_below r d l b))
+          → Stands l.row (node m (grown_below r d l a) (grown_below r d l b))
       below (inl q) e f g = absurd (e (sym q))
       below (inr (inl i)) e f g = inr (inl (f i))
       below (inr (inr i)) e f g = inr (inr (g i))
@@ -67,33 +69,61 @@ still_unlinked s row n u = dite (ℕ_discrete n row)
 
 module _ (s : State) (ok : PresentOk s) where
   pub store_present : (row : ℕ) (e : Entry) → PresentOk (value_stored s row e)
-  store_present row e = record { stands = λ n h u r. stands_with_value row (call_value e.call) s.tree n (ok.stands n h u r); replaced = λ n h. let r = ok.replaced n h in (r.0, record { is_row = r.1.is_row; older = r.1.older }) }
+  store_present row e = record {
+    stands = λ n h u r. stands_with_value row (call_value e.call) s.tree n (ok.stands n h u r);
+    replaced = λ n h. let r = ok.replaced n h in (r.0, record { is_row = r.1.is_row; older = r.1.older });
+  }
 
   pub height_present : (row x : ℕ) → PresentOk (height_stored s row x)
-  height_present row x = record { stands = λ n h u r. stands_with_height row x s.tree n (ok.stands n h u r); replaced = λ n h. let r = ok.replaced n h in (r.0, record { is_row = r.1.is_row; older = r.1.older }) }
+  height_present row x = record {
+    stands = λ n h u r. stands_with_height row x s.tree n (ok.stands n h u r);
+    replaced = λ n h. let r = ok.replaced n h in (r.0, record { is_row = r.1.is_row; older = r.1.older });
+  }
 
   pub cut_present : PresentOk (cut s)
-  cut_present = record { stands = ok.stands; replaced = λ n h. let r = ok.replaced n h in (r.0, record { is_row = r.1.is_row; older = let o = r.1.older in omega arith }) }
+  cut_present = record {
+    stands = ok.stands;
+    replaced = λ n h. let r = ok.replaced n h in (r.0, record { is_row = r.1.is_row; older = let o = r.1.older in omega arith });
+  }
 
   pub splice_present : (parent : ℕ) (d : Side) → PresentOk (spliced s parent d)
-  splice_present parent d = record { stands = ok.stands; replaced = λ n h. let r = ok.replaced n h in (r.0, record { is_row = r.1.is_row; older = r.1.older }) }
+  splice_present parent d = record {
+    stands = ok.stands;
+    replaced = λ n h. let r = ok.replaced n h in (r.0, record { is_row = r.1.is_row; older = r.1.older });
+  }
 
   pub lower_present : (row : ℕ) (d : Side) (raised : ℕ) → PresentOk (lowered_linked s row d raised)
-  lower_present row d raised = record { stands = ok.stands; replaced = λ n h. let r = ok.replaced n h in (r.0, record { is_row = r.1.is_row; older = r.1.older }) }
+  lower_present row d raised = record {
+    stands = ok.stands;
+    replaced = λ n h. let r = ok.replaced n h in (r.0, record { is_row = r.1.is_row; older = r.1.older });
+  }
 
   pub lift_present : (row : ℕ) (d : Side) (raised : ℕ) → PresentOk (raised_linked s row d raised)
-  lift_present row d raised = record { stands = ok.stands; replaced = λ n h. let r = ok.replaced n h in (r.0, record { is_row = r.1.is_row; older = r.1.older }) }
+  lift_present row d raised = record {
+    stands = ok.stands;
+    replaced = λ n h. let r = ok.replaced n h in (r.0, record { is_row = r.1.is_row; older = r.1.older });
+  }
 
   pub raise_present : (parent : ℕ) (p : Side) (row : ℕ) (d : Side) (raised : ℕ) → PresentOk (parent_linked s parent p row d raised)
-  raise_present parent p row d raised = record { stands = λ n h u r. stands_rotated row d s.tree n (ok.stands n h u r); replaced = λ n h. let r = ok.replaced n h in (r.0, record { is_row = r.1.is_row; older = r.1.older }) }
+  raise_present parent p row d raised = record {
+    stands = λ n h u r. stands_rotated row d s.tree n (ok.stands n h u r);
+    replaced = λ n h. let r = ok.replaced n h in (r.0, record { is_row = r.1.is_row; older = r.1.older });
+  }
 
   pub shrink_present : (row : ℕ) → PresentOk (shrinking_marked s row)
-  shrink_present row = record { stands = λ n h u r. ok.stands n h (λ m. u (still_unlinked s row n m)) r; replaced = λ n h. let r = ok.replaced n h in (r.0, record { is_row = r.1.is_row; older = r.1.older }) }
+  shrink_present row = record {
+    stands = λ n h u r. ok.stands n h (λ m. u (still_unlinked s row n m)) r;
+    replaced = λ n h. let r = ok.replaced n h in (r.0, record { is_row = r.1.is_row; older = r.1.older });
+  }
 
   pub clear_present : (row : ℕ) → PresentOk (shrinking_cleared s row)
-  clear_present row = record { stands = λ n h u r. ok.stands n h (λ m. u (still_unlinked s row n m)) r; replaced = λ n h. let r = ok.replaced n h in (r.0, record { is_row = r.1.is_row; older = r.1.older }) }
+  clear_present row = record {
+    stands = λ n h u r. ok.stands n h (λ m. u (still_unlinked s row n m)) r;
+    replaced = λ n h. let r = ok.replaced n h in (r.0, record { is_row = r.1.is_row; older = r.1.older });
+  }
 
-  pub unlink_present : (parent : ℕ) (d : Side) (row : ℕ) → TreeOk s → ChangesOk s → MayMarkUnlinked s parent d row → PresentOk (unlinked_marked s parent d row)
+  pub unlink_present : (parent : ℕ) (d : Side) (row : ℕ) → TreeOk s → ChangesOk s → MayMarkUnlinked s parent d row
+      → PresentOk (unlinked_marked s parent d row)
   unlink_present parent d row tree_ok changes_ok may =
       let lean = thin s s.links row s.tree tree_ok.reads (unlink_thin s parent d row changes_ok may may.one_child) in
       let marked : IsUnlinked (changed s.stamp row (s.stamp row + 1) row) = subst IsUnlinked (sym (changed_same s.stamp row (s.stamp row + 1))) (let f = may.unmarked in omega arith) in
@@ -103,7 +133,8 @@ module _ (s : State) (ok : PresentOk s) where
         replaced = λ n h. let r = ok.replaced n h in (r.0, record { is_row = r.1.is_row; older = r.1.older });
       }
 
-  pub copy_present : (parent : ℕ) (d : Side) (row copy : ℕ) → TreeOk s → LinksOk s → ChangesOk s → MayLinkCopy s parent d row copy → PresentOk (copy_linked s parent d row copy)
+  pub copy_present : (parent : ℕ) (d : Side) (row copy : ℕ) → TreeOk s → LinksOk s → ChangesOk s → MayLinkCopy s parent d row copy
+      → PresentOk (copy_linked s parent d row copy)
   copy_present parent d row copy tree_ok links_ok changes_ok may =
       let z : row ≢ 0 = (let p = may.shared.is_row in λ q. omega arith) in
       let child : s.links parent d ≡ row = sym (subst (Fits s parent d) may.no_change (changes_ok.fits parent d (place may.parent_live))) ∙ may.child in
@@ -123,7 +154,8 @@ module _ (s : State) (ok : PresentOk s) where
       place (inl q) = inl q.0
       place (inr l) = inr l.stands
 
-  pub leaf_present : (parent : ℕ) (d : Side) (row : ℕ) (x : Entry) → TreeOk s → ChangesOk s → MayLinkLeaf s parent d row x → PresentOk (leaf_linked s parent d row x)
+  pub leaf_present : (parent : ℕ) (d : Side) (row : ℕ) (x : Entry) → TreeOk s → ChangesOk s → MayLinkLeaf s parent d row x
+      → PresentOk (leaf_linked s parent d row x)
   leaf_present parent d row x tree_ok changes_ok may =
       let none : s.links parent d ≡ 0 = sym (subst (Fits s parent d) may.no_change (changes_ok.fits parent d (place may.parent_live))) ∙ may.no_child in
       record {
@@ -144,4 +176,7 @@ module _ (s : State) (ok : PresentOk s) where
 
 -- a row that was linked, with the birth of now and without the unlinked mark, is live
 pub live_known : (s : State) → PresentOk s → (n : ℕ) → In n s.linked → s.birth n ≡ s.epoch → ¬ IsUnlinked (s.stamp n) → IsLive s n
-live_known s ok n h b u = record { stands = ok.stands n h u (λ r. let o = (ok.replaced n r).1.older in omega (arith, b)); own = λ o. let q = o.older in omega (arith, b) }
+live_known s ok n h b u = record {
+  stands = ok.stands n h u (λ r. let o = (ok.replaced n r).1.older in omega (arith, b));
+  own = λ o. let q = o.older in omega (arith, b);
+}

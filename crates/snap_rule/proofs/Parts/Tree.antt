@@ -56,16 +56,40 @@ height_tree s row x ok = record {
 }
 
 pub cut_tree : (s : State) → TreeOk s → TreeOk (cut s)
-cut_tree s ok = record { tells = ok.tells; reads = reads_same s (cut s) s.links s.links s.tree ok.reads (λ n h. (refl, refl, refl, λ d. refl)); root = ok.root; ordered = ok.ordered; rows = ok.rows }
+cut_tree s ok = record {
+  tells = ok.tells;
+  reads = reads_same s (cut s) s.links s.links s.tree ok.reads (λ n h. (refl, refl, refl, λ d. refl));
+  root = ok.root;
+  ordered = ok.ordered;
+  rows = ok.rows;
+}
 
 pub splice_tree : (s : State) (parent : ℕ) (d : Side) → TreeOk s → TreeOk (spliced s parent d)
-splice_tree s parent d ok = record { tells = ok.tells; reads = reads_same s (spliced s parent d) s.links s.links s.tree ok.reads (λ n h. (refl, refl, refl, λ e. refl)); root = ok.root; ordered = ok.ordered; rows = ok.rows }
+splice_tree s parent d ok = record {
+  tells = ok.tells;
+  reads = reads_same s (spliced s parent d) s.links s.links s.tree ok.reads (λ n h. (refl, refl, refl, λ e. refl));
+  root = ok.root;
+  ordered = ok.ordered;
+  rows = ok.rows;
+}
 
 pub lower_tree : (s : State) (row : ℕ) (d : Side) (raised : ℕ) → TreeOk s → TreeOk (lowered_linked s row d raised)
-lower_tree s row d raised ok = record { tells = ok.tells; reads = reads_same s (lowered_linked s row d raised) s.links s.links s.tree ok.reads (λ n h. (refl, refl, refl, λ e. refl)); root = ok.root; ordered = ok.ordered; rows = ok.rows }
+lower_tree s row d raised ok = record {
+  tells = ok.tells;
+  reads = reads_same s (lowered_linked s row d raised) s.links s.links s.tree ok.reads (λ n h. (refl, refl, refl, λ e. refl));
+  root = ok.root;
+  ordered = ok.ordered;
+  rows = ok.rows;
+}
 
 pub lift_tree : (s : State) (row : ℕ) (d : Side) (raised : ℕ) → TreeOk s → TreeOk (raised_linked s row d raised)
-lift_tree s row d raised ok = record { tells = ok.tells; reads = reads_same s (raised_linked s row d raised) s.links s.links s.tree ok.reads (λ n h. (refl, refl, refl, λ e. refl)); root = ok.root; ordered = ok.ordered; rows = ok.rows }
+lift_tree s row d raised ok = record {
+  tells = ok.tells;
+  reads = reads_same s (raised_linked s row d raised) s.links s.links s.tree ok.reads (λ n h. (refl, refl, refl, λ e. refl));
+  root = ok.root;
+  ordered = ok.ordered;
+  rows = ok.rows;
+}
 
 -- a stamp with two more has the unlinked mark only where it had it
 two_more : (s : State) (row n : ℕ) → ¬ IsUnlinked (s.stamp n) → IsUnlinked (changed s.stamp row (s.stamp row + 2) n) → ⊥
@@ -78,10 +102,22 @@ two_more s row n z m = dite (ℕ_discrete n row)
     half w h = omega arith
 
 pub shrink_tree : (s : State) (row : ℕ) → TreeOk s → TreeOk (shrinking_marked s row)
-shrink_tree s row ok = record { tells = ok.tells; reads = reads_same s (shrinking_marked s row) s.links s.links s.tree ok.reads (λ n h. (refl, refl, refl, λ e. refl)); root = ok.root; ordered = ok.ordered; rows = λ n h. ((ok.rows n h).0, two_more s row n (ok.rows n h).1) }
+shrink_tree s row ok = record {
+  tells = ok.tells;
+  reads = reads_same s (shrinking_marked s row) s.links s.links s.tree ok.reads (λ n h. (refl, refl, refl, λ e. refl));
+  root = ok.root;
+  ordered = ok.ordered;
+  rows = λ n h. ((ok.rows n h).0, two_more s row n (ok.rows n h).1);
+}
 
 pub clear_tree : (s : State) (row : ℕ) → TreeOk s → TreeOk (shrinking_cleared s row)
-clear_tree s row ok = record { tells = ok.tells; reads = reads_same s (shrinking_cleared s row) s.links s.links s.tree ok.reads (λ n h. (refl, refl, refl, λ e. refl)); root = ok.root; ordered = ok.ordered; rows = λ n h. ((ok.rows n h).0, two_more s row n (ok.rows n h).1) }
+clear_tree s row ok = record {
+  tells = ok.tells;
+  reads = reads_same s (shrinking_cleared s row) s.links s.links s.tree ok.reads (λ n h. (refl, refl, refl, λ e. refl));
+  root = ok.root;
+  ordered = ok.ordered;
+  rows = λ n h. ((ok.rows n h).0, two_more s row n (ok.rows n h).1);
+}
 
 -- the one link to a row
 module _ (s : State) (ok : TreeOk s) (links_ok : LinksOk s) (parent : ℕ) (d : Side) (row : ℕ) (live : IsParent s parent d) (child : s.links parent d ≡ row) (is_row : row ≢ 0) where
@@ -127,7 +163,8 @@ without_gone s l r low high (node m a b) o v h = dite (ℕ_discrete m.row r)
     below (inr (inr i)) e f g = g i
 
 -- a row gets the unlinked mark
-pub unlink_tree : (s : State) (parent : ℕ) (d : Side) (row : ℕ) → TreeOk s → LinksOk s → ChangesOk s → MayMarkUnlinked s parent d row → TreeOk (unlinked_marked s parent d row)
+pub unlink_tree : (s : State) (parent : ℕ) (d : Side) (row : ℕ) → TreeOk s → LinksOk s → ChangesOk s → MayMarkUnlinked s parent d row
+    → TreeOk (unlinked_marked s parent d row)
 unlink_tree s parent d row ok links_ok changes_ok may =
     let s' : State = unlinked_marked s parent d row in
     let only : ℕ = only_child s row in
@@ -161,7 +198,8 @@ unlink_tree s parent d row ok links_ok changes_ok may =
     place (inr l) = inr l.stands
 
 -- a copy is linked
-pub copy_tree : (s : State) (parent : ℕ) (d : Side) (row copy : ℕ) → TreeOk s → LinksOk s → ChangesOk s → MayLinkCopy s parent d row copy → TreeOk (copy_linked s parent d row copy)
+pub copy_tree : (s : State) (parent : ℕ) (d : Side) (row copy : ℕ) → TreeOk s → LinksOk s → ChangesOk s → MayLinkCopy s parent d row copy
+    → TreeOk (copy_linked s parent d row copy)
 copy_tree s parent d row copy ok links_ok changes_ok may =
     let s' : State = copy_linked s parent d row copy in
     let base : ℕ → Side → ℕ = changed s.links copy (s.link copy) in
@@ -216,7 +254,8 @@ has_top s l empty n v h z = h
 has_top s l (node m a b) n v h z = omega (arith, v.0.is_row, z)
 
 -- a leaf is linked
-pub leaf_tree : (s : State) (parent : ℕ) (d : Side) (row : ℕ) (x : Entry) → TreeOk s → ChangesOk s → MayLinkLeaf s parent d row x → TreeOk (leaf_linked s parent d row x)
+pub leaf_tree : (s : State) (parent : ℕ) (d : Side) (row : ℕ) (x : Entry) → TreeOk s → ChangesOk s → MayLinkLeaf s parent d row x
+    → TreeOk (leaf_linked s parent d row x)
 leaf_tree s parent d row x ok changes_ok may =
     let s' : State = leaf_linked s parent d row x in
     let leaf : Node = leaf_of row x in
@@ -264,7 +303,8 @@ leaf_tree s parent d row x ok changes_ok may =
     some_top f (inl q) = absurd (f (sym q.0, sym q.1))
     some_top f (inr l) = has_top s s.links s.tree parent ok.reads l.stands
 
-    grows : s.links parent d ≡ 0 → IsParent s parent d → (root s.tree ≡ 0) ⊎ OnWay s.tree (call_key x.call) parent × Toward d (call_key x.call) (s.key parent)
+    grows : s.links parent d ≡ 0 → IsParent s parent d
+        → (root s.tree ≡ 0) ⊎ OnWay s.tree (call_key x.call) parent × Toward d (call_key x.call) (s.key parent)
     grows h l = elim may.place [ inl p ↦ inl (top h l p) | inr w ↦ inr w ]
 
 pub other_side : (d : Side) → other d ≡ d → ⊥
@@ -272,7 +312,9 @@ other_side Left q = cc
 other_side Right q = cc
 
 -- the raised row comes into the lowered row's place
-pub raise_tree : (s : State) (parent : ℕ) (p : Side) (row : ℕ) (d : Side) (raised : ℕ) → TreeOk s → LinksOk s → ChangesOk s → MayLinkParent s parent p row d raised → TreeOk (parent_linked s parent p row d raised)
+pub raise_tree : (s : State) (parent : ℕ) (p : Side) (row : ℕ) (d : Side) (raised : ℕ) → TreeOk s → LinksOk s → ChangesOk s
+    → MayLinkParent s parent p row d raised
+    → TreeOk (parent_linked s parent p row d raised)
 raise_tree s parent p row d raised ok links_ok changes_ok may =
     let s' : State = parent_linked s parent p row d raised in
     let one : ℕ → Side → ℕ = relink s.links row d (s.link row d) in

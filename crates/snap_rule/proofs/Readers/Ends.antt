@@ -13,14 +13,18 @@ use Rattle.snap_rule.specs.Rule.{LinksOk}
 use Rattle.snap_rule.proofs.Moments.{at_moment}
 
 -- n's stamp is confirmed, after a link 0 and after a row
-pub none_confirmed : (s : State) (seen : List Entry) (k n v : ℕ) (d : Side) → ReaderOk s seen k (NoLink n v d) → s.stamp n ≡ v → ReaderOk s seen k ConfirmedNone
+pub none_confirmed : (s : State) (seen : List Entry) (k n v : ℕ) (d : Side) → ReaderOk s seen k (NoLink n v d) → s.stamp n ≡ v
+    → ReaderOk s seen k ConfirmedNone
 none_confirmed s seen k n v d h e = record { begins = h.begins; at_stage = h.at_stage.1 e }
 
-pub row_confirmed : (s : State) (seen : List Entry) (k n v c w : ℕ) → ReaderOk s seen k (Relinked n v c w) → s.stamp n ≡ v → ReaderOk s seen k (Confirmed c w)
+pub row_confirmed : (s : State) (seen : List Entry) (k n v c w : ℕ) → ReaderOk s seen k (Relinked n v c w) → s.stamp n ≡ v
+    → ReaderOk s seen k (Confirmed c w)
 row_confirmed s seen k n v c w h e = record { begins = h.begins; at_stage = (h.at_stage.1, h.at_stage.2 e) }
 
 -- c's key is another, or the key
-pub key_differs : (s : State) (links_ok : LinksOk s) (seen : List Entry) (k c w : ℕ) (d : Side) → ReaderOk s seen k (Confirmed c w) → Toward d k (s.key c) → ReaderOk s seen k (Standing c w d)
+pub key_differs : (s : State) (links_ok : LinksOk s) (seen : List Entry) (k c w : ℕ) (d : Side) → ReaderOk s seen k (Confirmed c w)
+    → Toward d k (s.key c)
+    → ReaderOk s seen k (Standing c w d)
 key_differs s links_ok seen k c w d h t = record {
   begins = h.begins;
   at_stage = record { stamp = h.at_stage.0.stamp; faces = inr ((λ e. links_ok.no_zero (rw e at h.at_stage.0.linked)), t); placed = h.at_stage.1.placed };
@@ -34,7 +38,8 @@ value_of_word None = refl
 value_of_word (Some v) = refl
 
 -- the answers
-pub value_loaded : (s : State) (seen : List Entry) (k c : ℕ) → ReaderOk s seen k (Matched c) → AtSome seen s.history (λ p. value_of (s.value c) ≡ told p k)
+pub value_loaded : (s : State) (seen : List Entry) (k c : ℕ) → ReaderOk s seen k (Matched c)
+    → AtSome seen s.history (λ p. value_of (s.value c) ≡ told p k)
 value_loaded s seen k c h = at_moment seen s.history (λ p. s.value c ≡ value_word (told p k)) (λ p. value_of (s.value c) ≡ told p k) (λ p e. ap value_of e ∙ value_of_word (told p k)) h.at_stage.2
 
 pub none_answered : (s : State) (seen : List Entry) (k : ℕ) → ReaderOk s seen k ConfirmedNone → AtSome seen s.history (λ p. None ≡ told p k)

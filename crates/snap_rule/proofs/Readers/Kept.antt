@@ -49,7 +49,8 @@ module _ (s s' : State) (ev : Evolves s s') where
   placed_less seen seen' n k b (inr (inl w)) = inr (inl w)
   placed_less seen seen' n k b (inr (inr o)) = inr (inr (record { shared = o.shared; image = o.image; is_image = o.is_image; tells = seen_less seen seen' s'.history (λ p. find o.image k ≡ told p k) b o.tells }))
 
-  still_placed : (seen : List Entry) (n k : ℕ) → Begins seen s.history → IsUnmarked (s.stamp n) → s'.stamp n ≡ s.stamp n → IsPlaced s seen n k → IsPlaced s' seen n k
+  still_placed : (seen : List Entry) (n k : ℕ) → Begins seen s.history → IsUnmarked (s.stamp n) → s'.stamp n ≡ s.stamp n → IsPlaced s seen n k
+      → IsPlaced s' seen n k
   still_placed seen n k b u e (inl z) = inl z
   still_placed seen n k b u e (inr (inl w)) = placed_less seen s'.history n k (begins_trans seen s.history s'.history b ev.history) (ev.place n k w.1 w.0 u e)
   still_placed seen n k b u e (inr (inr o)) = inr (inr (on_image_kept seen n k o))
@@ -61,7 +62,9 @@ module _ (s s' : State) (ev : Evolves s s') where
   recorded_kept : (n v : ℕ) → IsRecorded s n v → IsRecorded s' n v
   recorded_kept n v r = let g = ev.stamp n r.reached in record { reached = reached_kept n r.reached; unmarked = r.unmarked; recorded = omega (arith, r.recorded) }
 
-  pub position_kept : (seen : List Entry) (k n v : ℕ) → Begins seen s.history → IsRecorded s n v → (s.stamp n ≡ v → IsPlaced s seen n k) → s'.stamp n ≡ v → IsPlaced s' seen n k
+  pub position_kept : (seen : List Entry) (k n v : ℕ) → Begins seen s.history → IsRecorded s n v → (s.stamp n ≡ v → IsPlaced s seen n k)
+      → s'.stamp n ≡ v
+      → IsPlaced s' seen n k
   position_kept seen k n v b r p e = let q = same_stamp n v r e in still_placed seen n k b (rw q r.unmarked) (e ∙ sym q) (p q)
 
   faces_kept : (k n : ℕ) (d : Side) → WasLinked s n → Faces s n k d → Faces s' n k d
@@ -86,12 +89,15 @@ module _ (s s' : State) (ev : Evolves s s') where
       (λ n. now seen s'.history (λ p. s'.value c ≡ value_word (told p k)) (begins_trans seen s.history s'.history b ev.history) (ev.value c h n ∙ ap (λ (x : ℕ). value_word (told s'.history x)) q))
 
   -- a row that has come to be unlinked has no value, and its key was absent
-  unlinked_kept : (seen : List Entry) (c : ℕ) → Begins seen s.history → In c s.linked → (IsUnlinked (s.stamp c) → IsGone s seen c) → IsUnlinked (s'.stamp c) → IsGone s' seen c
+  unlinked_kept : (seen : List Entry) (c : ℕ) → Begins seen s.history → In c s.linked → (IsUnlinked (s.stamp c) → IsGone s seen c)
+      → IsUnlinked (s'.stamp c)
+      → IsGone s' seen c
   unlinked_kept seen c b h f m = dite (ℕ_discrete (s.stamp c % 2) 1)
       (λ e. let u = f e in record { no_value = ev.gone c h e ∙ u.no_value; absent = rw (ev.key c h) (absent_kept seen (s.key c) u.absent) })
       (λ n. let u = ev.unlinked c h n m in record { no_value = u.0; absent = rw (ev.key c h) (now seen s'.history (λ p. told p (s.key c) ≡ None) (begins_trans seen s.history s'.history b ev.history) u.1) })
 
-  candidate_kept : (seen : List Entry) (k c w : ℕ) → Begins seen s.history → In c s.linked → IsRecorded s c w → IsCandidate s seen k c w → IsCandidate s' seen k c w
+  candidate_kept : (seen : List Entry) (k c w : ℕ) → Begins seen s.history → In c s.linked → IsRecorded s c w → IsCandidate s seen k c w
+      → IsCandidate s' seen k c w
   candidate_kept seen k c w b h r a = record {
     placed = position_kept seen k c w b r a.placed;
     tells = λ e. let q = sym (ev.key c h) ∙ e in told_kept seen c k b h q (a.tells q);
@@ -111,4 +117,7 @@ module _ (s s' : State) (ev : Evolves s s') where
   stage_kept seen k (Matched c) b h = (ev.linked c h.0, ev.key c h.0 ∙ h.1, told_kept seen c k b h.0 h.1 h.2)
 
   pub reader_kept : (seen : List Entry) (k : ℕ) (t : Point) → ReaderOk s seen k t → ReaderOk s' seen k t
-  reader_kept seen k t h = record { begins = begins_trans seen s.history s'.history h.begins ev.history; at_stage = stage_kept seen k t h.begins h.at_stage }
+  reader_kept seen k t h = record {
+    begins = begins_trans seen s.history s'.history h.begins ev.history;
+    at_stage = stage_kept seen k t h.begins h.at_stage;
+  }

@@ -35,7 +35,8 @@ pub record ImageBelow (s : State) (seen : List Entry) (k r : ℕ) : Type 0 where
   pub tells : AtSome seen s.history (λ p. find part k ≡ told p k)
 
 -- the value of a tree's top row, where it has the key
-pub top_value : (s : State) (l : ℕ → Side → ℕ) (t : Tree) (k c : ℕ) → Reads s l t → root t ≡ c → c ≢ 0 → s.key c ≡ k → s.value c ≡ value_word (find t k)
+pub top_value : (s : State) (l : ℕ → Side → ℕ) (t : Tree) (k c : ℕ) → Reads s l t → root t ≡ c → c ≢ 0 → s.key c ≡ k
+    → s.value c ≡ value_word (find t k)
 top_value s l empty k c r e z q = absurd (z (sym e))
 top_value s l (node m a b) k c r e z q = subst (λ (x : ℕ). s.value x ≡ value_word (find (node m a b) k)) e (finds_value s l m a b k r (ap s.key e ∙ q))
 
@@ -78,13 +79,22 @@ module _ (s : State) (tree_ok : TreeOk s) (links_ok : LinksOk s) (changes_ok : C
       stands_child Right m a b r h = inr (inr h)
 
   pub tree_below : (k n : ℕ) (d : Side) → Faces s n k d → (n ≡ 0) ⊎ OnWay s.tree k n → TreeBelow s k (s.links n d)
-  tree_below k n d (inl f) (inl z) = record { part = s.tree; top = sym tree_ok.root ∙ sym (ap₂ s.links z f.1); reads = tree_ok.reads; finds = tree_ok.tells k; stands = λ r h. h; way = λ r w. w }
+  tree_below k n d (inl f) (inl z) = record {
+    part = s.tree;
+    top = sym tree_ok.root ∙ sym (ap₂ s.links z f.1);
+    reads = tree_ok.reads;
+    finds = tree_ok.tells k;
+    stands = λ r h. h;
+    way = λ r w. w;
+  }
   tree_below k n d (inl f) (inr w) = absurd (tree_row n (way_stands s.tree k n w) f.0)
   tree_below k n d (inr f) (inl z) = absurd (f.0 z)
   tree_below k n d (inr f) (inr w) = tree_below_node k n d f.1 (subtree_at s s.links s.tree k n tree_ok.reads w)
 
   -- going on in an image
-  image_below_child : (seen : List Entry) (k n : ℕ) (d : Side) (t : Tree) → n ≢ 0 → Toward d k (s.key n) → IsImage s n t → AtSome seen s.history (λ p. find t k ≡ told p k) → ImageBelow s seen k (s.link n d)
+  image_below_child : (seen : List Entry) (k n : ℕ) (d : Side) (t : Tree) → n ≢ 0 → Toward d k (s.key n) → IsImage s n t
+      → AtSome seen s.history (λ p. find t k ≡ told p k)
+      → ImageBelow s seen k (s.link n d)
   image_below_child seen k n d empty z f i a = absurd (z (sym i.top))
   image_below_child seen k n d (node m a b) z f i t =
       let c = reads_child s s.link d m a b i.reads in
@@ -118,7 +128,9 @@ module _ (s : State) (tree_ok : TreeOk s) (links_ok : LinksOk s) (changes_ok : C
   stands_there k n (inl z) = inl z
   stands_there k n (inr w) = inr (way_stands s.tree k n w)
 
-  absent_at : (seen : List Entry) (k n v : ℕ) (d : Side) → Begins seen s.history → IsStanding s seen k n v d → s.stamp n ≡ v → s.link n d ≡ 0 → ((n ≡ 0) ⊎ OnWay s.tree k n) ⊎ OnImage s seen n k → WasAbsent s seen k
+  absent_at : (seen : List Entry) (k n v : ℕ) (d : Side) → Begins seen s.history → IsStanding s seen k n v d → s.stamp n ≡ v → s.link n d ≡ 0
+      → ((n ≡ 0) ⊎ OnWay s.tree k n) ⊎ OnImage s seen n k
+      → WasAbsent s seen k
   absent_at seen k n v d b h e z (inl p) =
       now seen s.history (λ p. told p k ≡ None) b
       (tree_absent k (s.links n d) (link_zero n v d (s.pending n d) h.stamp.unmarked e z (changes_ok.fits n d (stands_there k n p))) (tree_below k n d h.faces p))
@@ -138,15 +150,23 @@ module _ (s : State) (tree_ok : TreeOk s) (links_ok : LinksOk s) (changes_ok : C
   link_to n c d e z (inr h) = subst (λ (x : ℕ). In x s.linked) e h
 
   -- the first load of the link gave a row
-  pub link_found : (seen : List Entry) (k n v c : ℕ) (d : Side) → ReaderOk s seen k (Standing n v d) → s.link n d ≡ c → c ≢ 0 → ReaderOk s seen k (Linked n v d c)
-  link_found seen k n v c d h e z = record { begins = h.begins; at_stage = (h.at_stage, link_to n c d e z (links_ok.links n d h.at_stage.stamp.reached)) }
+  pub link_found : (seen : List Entry) (k n v c : ℕ) (d : Side) → ReaderOk s seen k (Standing n v d) → s.link n d ≡ c → c ≢ 0
+      → ReaderOk s seen k (Linked n v d c)
+  link_found seen k n v c d h e z = record {
+    begins = h.begins;
+    at_stage = (h.at_stage, link_to n c d e z (links_ok.links n d h.at_stage.stamp.reached));
+  }
 
 -- the start of a way
 pub way_starts : (s : State) (seen : List Entry) (k : ℕ) → Begins seen s.history → ReaderOk s seen k (Standing 0 0 Right)
-way_starts s seen k b = record { begins = b; at_stage = record { stamp = record { reached = inl refl; unmarked = refl; recorded = omega arith }; faces = inl (refl, refl); placed = λ e. inl refl } }
+way_starts s seen k b = record {
+  begins = b;
+  at_stage = record { stamp = record { reached = inl refl; unmarked = refl; recorded = omega arith }; faces = inl (refl, refl); placed = λ e. inl refl };
+}
 
 -- the load of the child's stamp, without a mark
-pub stamp_loaded : (s : State) (seen : List Entry) (k n v c w : ℕ) (d : Side) → ReaderOk s seen k (Linked n v d c) → s.stamp c ≡ w → IsUnmarked w → ReaderOk s seen k (Stamped n v d c w)
+pub stamp_loaded : (s : State) (seen : List Entry) (k n v c w : ℕ) (d : Side) → ReaderOk s seen k (Linked n v d c) → s.stamp c ≡ w → IsUnmarked w
+    → ReaderOk s seen k (Stamped n v d c w)
 stamp_loaded s seen k n v c w d h e u = record {
   begins = h.begins;
   at_stage = (h.at_stage.0, record { linked = h.at_stage.1; stamp = record { reached = inr h.at_stage.1; unmarked = u; recorded = omega (arith, e) } }, λ m. absurd (unmarked_unlinked w u (rw e at m)));

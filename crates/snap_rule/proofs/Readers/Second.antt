@@ -43,7 +43,8 @@ module _ (s : State) (tree_ok : TreeOk s) (links_ok : LinksOk s) (sharing_ok : S
   below_shared n d t h u e z = let q = plain_word s changes_ok n d h u ∙ e in subst (IsShared s) q (sharing_ok.links n d h u (λ x. z (sym q ∙ x)))
 
   -- the part of the tree at a shared row is its image
-  pub shared_part : (t : Tree) → Reads s s.links t → ((n : ℕ) → Stands n t → Stands n s.tree) → (root t ≢ 0 → IsShared s (root t)) → Reads s s.link t × EachRow (λ r. In r s.linked × IsShared s r) t
+  pub shared_part : (t : Tree) → Reads s s.links t → ((n : ℕ) → Stands n t → Stands n s.tree) → (root t ≢ 0 → IsShared s (root t))
+      → Reads s s.link t × EachRow (λ r. In r s.linked × IsShared s r) t
   shared_part empty r f u = (tt, tt)
   shared_part (node m a b) r f u =
       let h : Stands m.row s.tree = f m.row (inl refl) in
@@ -63,8 +64,9 @@ module _ (s : State) (tree_ok : TreeOk s) (links_ok : LinksOk s) (sharing_ok : S
   tree_told : (seen : List Entry) (k c : ℕ) → Begins seen s.history → c ≢ 0 → TreeBelow s k c → s.key c ≡ k → HasTold s seen c k
   tree_told seen k c b z t e = now seen s.history (λ p. s.value c ≡ value_word (told p k)) b (top_value s s.links t.part k c t.reads t.top z e ∙ ap value_word t.finds)
 
-  in_change : (seen : List Entry) (k n v c w : ℕ) (d : Side) (x : Change) → Begins seen s.history → IsStanding s seen k n v d → s.stamp n ≡ v → s.link n d ≡ c → c ≢ 0
-      → IsUnmarked w → (IsUnlinked (s.stamp c) → IsGone s seen c) → (n ≡ 0) ⊎ OnWay s.tree k n → Fits s n d x → IsCandidate s seen k c w
+  in_change : (seen : List Entry) (k n v c w : ℕ) (d : Side) (x : Change) → Begins seen s.history → IsStanding s seen k n v d → s.stamp n ≡ v
+      → s.link n d ≡ c → c ≢ 0 → IsUnmarked w → (IsUnlinked (s.stamp c) → IsGone s seen c) → (n ≡ 0) ⊎ OnWay s.tree k n → Fits s n d x
+      → IsCandidate s seen k c w
   in_change seen k n v c w d plain b h e q z u f p g =
       let t : TreeBelow s k c = subst (TreeBelow s k) (sym g ∙ q) (tree_below s tree_ok links_ok changes_ok k n d h.faces p) in
       record { placed = λ x. tree_placed seen k c b z t; tells = λ x. tree_told seen k c b z t x }
@@ -91,13 +93,15 @@ module _ (s : State) (tree_ok : TreeOk s) (links_ok : LinksOk s) (sharing_ok : S
         tells = λ x. at_moment seen s.history (λ p. find j.part k ≡ told p k) (λ p. s.value c ≡ value_word (told p k)) (λ p y. top_value s s.link j.part k c j.image.reads j.image.top z x ∙ ap value_word y) j.tells;
       }
 
-  candidate : (seen : List Entry) (k n v c w : ℕ) (d : Side) → Begins seen s.history → IsStanding s seen k n v d → s.stamp n ≡ v → s.link n d ≡ c → c ≢ 0
-      → IsUnmarked w → (IsUnlinked (s.stamp c) → IsGone s seen c) → ((n ≡ 0) ⊎ OnWay s.tree k n) ⊎ OnImage s seen n k → IsCandidate s seen k c w
+  candidate : (seen : List Entry) (k n v c w : ℕ) (d : Side) → Begins seen s.history → IsStanding s seen k n v d → s.stamp n ≡ v → s.link n d ≡ c
+      → c ≢ 0 → IsUnmarked w → (IsUnlinked (s.stamp c) → IsGone s seen c) → ((n ≡ 0) ⊎ OnWay s.tree k n) ⊎ OnImage s seen n k
+      → IsCandidate s seen k c w
   candidate seen k n v c w d b h e q z u f (inl p) = in_change seen k n v c w d (s.pending n d) b h e q z u f p (changes_ok.fits n d (stands_there s tree_ok links_ok changes_ok k n p))
   candidate seen k n v c w d b h e q z u f (inr o) = in_image seen k n c w d q z (image_below s tree_ok links_ok changes_ok seen k n d h.faces o)
 
   -- the second load of the link gave the same row
-  pub link_again : (seen : List Entry) (k n v c w : ℕ) (d : Side) → ReaderOk s seen k (Stamped n v d c w) → s.link n d ≡ c → ReaderOk s seen k (Relinked n v c w)
+  pub link_again : (seen : List Entry) (k n v c w : ℕ) (d : Side) → ReaderOk s seen k (Stamped n v d c w) → s.link n d ≡ c
+      → ReaderOk s seen k (Relinked n v c w)
   link_again seen k n v c w d h q =
       let a = h.at_stage in
       record {

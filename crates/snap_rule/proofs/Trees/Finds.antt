@@ -27,20 +27,23 @@ find_high low high empty k h z = refl
 find_high low high (node m a b) k h z = let x = h.1 in find_right m a b k (omega arith) ∙ find_high (m.key + 1) high b k h.3 z
 
 -- two nodes with one key
-both_nodes : (m n : Node) (a b c d : Tree) (k : ℕ) → n.key ≡ m.key → (m.key ≡ k → n.value ≡ m.value) → find c k ≡ find a k → find d k ≡ find b k → find (node n c d) k ≡ find (node m a b) k
+both_nodes : (m n : Node) (a b c d : Tree) (k : ℕ) → n.key ≡ m.key → (m.key ≡ k → n.value ≡ m.value) → find c k ≡ find a k → find d k ≡ find b k
+    → find (node n c d) k ≡ find (node m a b) k
 both_nodes m n a b c d k e v f g = three k m.key
     (λ q. find_here n c d k (e ∙ q) ∙ v q ∙ sym (find_here m a b k q))
     (λ q. find_left n c d k (omega arith) ∙ f ∙ sym (find_left m a b k q))
     (λ q. find_right n c d k (omega arith) ∙ g ∙ sym (find_right m a b k q))
 
-pub find_value_other : (s : State) (l : ℕ → Side → ℕ) (r : ℕ) (o : Option ℕ) (t : Tree) (k : ℕ) → Reads s l t → k ≢ s.key r → find (with_value r o t) k ≡ find t k
+pub find_value_other : (s : State) (l : ℕ → Side → ℕ) (r : ℕ) (o : Option ℕ) (t : Tree) (k : ℕ) → Reads s l t → k ≢ s.key r
+    → find (with_value r o t) k ≡ find t k
 find_value_other s l r o empty k h z = refl
 find_value_other s l r o (node m a b) k h z =
     both_nodes m (record m { value = _ }) a b (with_value r o a) (with_value r o b) k refl
     (λ q. let g : eqb m.row r ≡ false = ne_eqb m.row r (λ e. z (sym (sym (ap s.key e) ∙ h.0.key ∙ q))) in rw g)
     (find_value_other s l r o a k h.3 z) (find_value_other s l r o b k h.4 z)
 
-pub find_value_same : (s : State) (l : ℕ → Side → ℕ) (r : ℕ) (o : Option ℕ) (t : Tree) (k : ℕ) → Reads s l t → s.key r ≡ k → OnWay t k r → find (with_value r o t) k ≡ o
+pub find_value_same : (s : State) (l : ℕ → Side → ℕ) (r : ℕ) (o : Option ℕ) (t : Tree) (k : ℕ) → Reads s l t → s.key r ≡ k → OnWay t k r
+    → find (with_value r o t) k ≡ o
 find_value_same s l r o empty k h z w = absurd w
 find_value_same s l r o (node m a b) k h z (inl e) =
     let g : eqb m.row r ≡ true = eq-eqb m.row r (sym e) in
@@ -60,7 +63,8 @@ find_first : (low high : ℕ) (m : Node) (a b : Tree) (k : ℕ) → Between low 
 find_first low high m empty b k h z = find_low (m.key + 1) high b k h.3 (omega arith)
 find_first low high m (node p x y) b k h z = refl
 
-find_second : (low high : ℕ) (m : Node) (a b : Tree) (k : ℕ) → Between low high (node m a b) → (a ≡ empty) ⊎ (b ≡ empty) → m.key < k → find (one_of a b) k ≡ find b k
+find_second : (low high : ℕ) (m : Node) (a b : Tree) (k : ℕ) → Between low high (node m a b) → (a ≡ empty) ⊎ (b ≡ empty) → m.key < k
+    → find (one_of a b) k ≡ find b k
 find_second low high m empty b k h c z = refl
 find_second low high m (node p x y) b k h (inl e) z = cc
 find_second low high m (node p x y) b k h (inr e) z = find_high low m.key (node p x y) k h.2 (omega arith) ∙ sym (ap (λ (t : Tree). find t k) e)
@@ -69,7 +73,8 @@ find_neither : (low high : ℕ) (m : Node) (a b : Tree) (k : ℕ) → Between lo
 find_neither low high m empty b k h z = find_low (m.key + 1) high b k h.3 (omega arith)
 find_neither low high m (node p x y) b k h z = find_high low m.key (node p x y) k h.2 (omega arith)
 
-pub find_without : (s : State) (l : ℕ → Side → ℕ) (r low high : ℕ) (t : Tree) (k : ℕ) → Between low high t → Reads s l t → Thin r t → s.value r ≡ 0 → find (without r t) k ≡ find t k
+pub find_without : (s : State) (l : ℕ → Side → ℕ) (r low high : ℕ) (t : Tree) (k : ℕ) → Between low high t → Reads s l t → Thin r t → s.value r ≡ 0
+    → find (without r t) k ≡ find t k
 find_without s l r low high empty k h v c z = refl
 find_without s l r low high (node m a b) k h v c z = dite (ℕ_discrete m.row r)
     (λ e. let g : eqb m.row r ≡ true = eq-eqb m.row r e in rw g (three k m.key
@@ -93,7 +98,8 @@ turn_right m p a x y k h = three k m.key
     (λ q. find_left p (node m a x) y k (omega arith) ∙ find_left m a x k q ∙ sym (find_left m a (node p x y) k q))
     (λ q. both_nodes p p x y (node m a x) y k refl (λ z. refl) (find_right m a x k q) refl ∙ sym (find_right m a (node p x y) k q))
 
-find_turned : (d : Side) (low high : ℕ) (m : Node) (a b : Tree) (k : ℕ) → Between low high (node m a b) → find (turned d m a b) k ≡ find (node m a b) k
+find_turned : (d : Side) (low high : ℕ) (m : Node) (a b : Tree) (k : ℕ) → Between low high (node m a b)
+    → find (turned d m a b) k ≡ find (node m a b) k
 find_turned Left low high m empty b k h = refl
 find_turned Left low high m (node p x y) b k h = turn_left m p x y b k h.2.1
 find_turned Right low high m a empty k h = refl
@@ -105,7 +111,8 @@ find_rotated r d low high (node m a b) k h = dite (ℕ_discrete m.row r)
     (λ e. let g : eqb m.row r ≡ true = eq-eqb m.row r e in rw g (find_turned d low high m a b k h))
     (λ o. let g : eqb m.row r ≡ false = ne_eqb m.row r o in rw g (below (find_rotated r d low m.key a k h.2) (find_rotated r d (m.key + 1) high b k h.3)))
   where
-    below : find (rotated r d a) k ≡ find a k → find (rotated r d b) k ≡ find b k → find (node m (rotated r d a) (rotated r d b)) k ≡ find (node m a b) k
+    below : find (rotated r d a) k ≡ find a k → find (rotated r d b) k ≡ find b k
+        → find (node m (rotated r d a) (rotated r d b)) k ≡ find (node m a b) k
     below x y = both_nodes m m a b (rotated r d a) (rotated r d b) k refl (λ q. refl) x y
 
 leaf_other : (l : Node) (k : ℕ) → k ≢ l.key → find (node l empty empty) k ≡ None
@@ -123,7 +130,8 @@ grown_below_other r d l (node m a b) k z = dite (ℕ_discrete m.row r)
     (λ e. let g : eqb m.row r ≡ true = eq-eqb m.row r e in rw g (first_on_other d m a b l k z))
     (λ o. let g : eqb m.row r ≡ false = ne_eqb m.row r o in rw g (below (grown_below_other r d l a k z) (grown_below_other r d l b k z)))
   where
-    below : find (grown_below r d l a) k ≡ find a k → find (grown_below r d l b) k ≡ find b k → find (node m (grown_below r d l a) (grown_below r d l b)) k ≡ find (node m a b) k
+    below : find (grown_below r d l a) k ≡ find a k → find (grown_below r d l b) k ≡ find b k
+        → find (node m (grown_below r d l a) (grown_below r d l b)) k ≡ find (node m a b) k
     below x y = both_nodes m m a b (grown_below r d l a) (grown_below r d l b) k refl (λ q. refl) x y
 
 pub find_grown_other : (r : ℕ) (d : Side) (l : Node) (t : Tree) (k : ℕ) → k ≢ l.key → find (grown r d l t) k ≡ find t k
@@ -137,7 +145,8 @@ first_on_same Right m a empty l c t = find_right m a (node l empty empty) l.key 
 first_on_same Right m a (node p x y) l c t = cc
 
 module _ (s : State) (links : ℕ → Side → ℕ) (r : ℕ) (d : Side) (l : Node) (none : links r d ≡ 0) where
-  grown_top : (m : Node) (a b : Tree) → Reads s links (node m a b) → r ≡ m.row → Toward d l.key (s.key r) → find (grown_below r d l (node m a b)) l.key ≡ l.value
+  grown_top : (m : Node) (a b : Tree) → Reads s links (node m a b) → r ≡ m.row → Toward d l.key (s.key r)
+      → find (grown_below r d l (node m a b)) l.key ≡ l.value
   grown_top m a b v e t =
       let g : eqb m.row r ≡ true = eq-eqb m.row r (sym e) in
       let c = reads_child s links d m a b v in
@@ -153,7 +162,8 @@ module _ (s : State) (links : ℕ → Side → ℕ) (r : ℕ) (d : Side) (l : No
       (λ e. grown_top m a b v (sym e) t)
       (λ o. let g : eqb m.row r ≡ false = ne_eqb m.row r o in rw g (find_right m (grown_below r d l a) (grown_below r d l b) l.key w.0 ∙ grown_below_same b v.4 w.1 t))
 
-  pub find_grown_same : (t : Tree) → Reads s links t → (root t ≡ 0) ⊎ OnWay t l.key r × Toward d l.key (s.key r) → find (grown r d l t) l.key ≡ l.value
+  pub find_grown_same : (t : Tree) → Reads s links t → (root t ≡ 0) ⊎ OnWay t l.key r × Toward d l.key (s.key r)
+      → find (grown r d l t) l.key ≡ l.value
   find_grown_same empty v w = find_here l empty empty l.key refl
   find_grown_same (node m a b) v (inl z) = absurd (omega (arith, v.0.is_row, z))
   find_grown_same (node m a b) v (inr w) = grown_below_same (node m a b) v w.0 w.1

@@ -38,7 +38,8 @@ without_ordered r low high (node m a b) h = let x = h.0 in let y = h.1 in dite (
     (λ e. let g : eqb m.row r ≡ true = eq-eqb m.row r e in rw g (one_of_ordered low high a b (wider low low m.key high a (omega arith) (omega arith) h.2) (wider (m.key + 1) low high high b (omega arith) (omega arith) h.3)))
     (λ o. let g : eqb m.row r ≡ false = ne_eqb m.row r o in rw g (below h (without_ordered r low m.key a h.2) (without_ordered r (m.key + 1) high b h.3)))
   where
-    below : Between low high (node m a b) → Between low m.key (without r a) → Between (m.key + 1) high (without r b) → Between low high (node m (without r a) (without r b))
+    below : Between low high (node m a b) → Between low m.key (without r a) → Between (m.key + 1) high (without r b)
+        → Between low high (node m (without r a) (without r b))
     below h x y = (h.0, h.1, x, y)
 
 turned_ordered : (d : Side) (low high : ℕ) (m : Node) (a b : Tree) → Between low high (node m a b) → Between low high (turned d m a b)
@@ -53,7 +54,8 @@ rotated_ordered r d low high (node m a b) h = dite (ℕ_discrete m.row r)
     (λ e. let g : eqb m.row r ≡ true = eq-eqb m.row r e in rw g (turned_ordered d low high m a b h))
     (λ o. let g : eqb m.row r ≡ false = ne_eqb m.row r o in rw g (below h (rotated_ordered r d low m.key a h.2) (rotated_ordered r d (m.key + 1) high b h.3)))
   where
-    below : Between low high (node m a b) → Between low m.key (rotated r d a) → Between (m.key + 1) high (rotated r d b) → Between low high (node m (rotated r d a) (rotated r d b))
+    below : Between low high (node m a b) → Between low m.key (rotated r d a) → Between (m.key + 1) high (rotated r d b)
+        → Between low high (node m (rotated r d a) (rotated r d b))
     below h x y = (h.0, h.1, x, y)
 
 -- where a row doesn't stand nothing grows
@@ -64,14 +66,18 @@ not_grown r d l (node m a b) h = let g : eqb m.row r ≡ false = ne_eqb m.row r 
     below : grown_below r d l a ≡ a → grown_below r d l b ≡ b → node m (grown_below r d l a) (grown_below r d l b) ≡ node m a b
     below x y = cc
 
-first_on_ordered : (d : Side) (low high : ℕ) (m : Node) (a b : Tree) (l : Node) → Between low high (node m a b) → Toward d l.key m.key → low ≤ l.key → l.key < high → Between low high (first_on d m a b l)
+first_on_ordered : (d : Side) (low high : ℕ) (m : Node) (a b : Tree) (l : Node) → Between low high (node m a b) → Toward d l.key m.key → low ≤ l.key
+    → l.key < high
+    → Between low high (first_on d m a b l)
 first_on_ordered Left low high m empty b l h t x y = (h.0, h.1, (x, t, tt, tt), h.3)
 first_on_ordered Left low high m (node p u v) b l h t x y = h
 first_on_ordered Right low high m a empty l h t x y = (h.0, h.1, h.2, (omega arith, y, tt, tt))
 first_on_ordered Right low high m a (node p u v) l h t x y = h
 
 module _ (s : State) (links : ℕ → Side → ℕ) (r : ℕ) (d : Side) (l : Node) where
-  grown_below_ordered : (low high : ℕ) (t : Tree) → Between low high t → Reads s links t → OnWay t l.key r → Toward d l.key (s.key r) → low ≤ l.key → l.key < high → Between low high (grown_below r d l t)
+  grown_below_ordered : (low high : ℕ) (t : Tree) → Between low high t → Reads s links t → OnWay t l.key r → Toward d l.key (s.key r) → low ≤ l.key
+      → l.key < high
+      → Between low high (grown_below r d l t)
   grown_below_ordered low high empty h v w t x y = absurd w
   grown_below_ordered low high (node m a b) h v (inl e) t x y =
       let g : eqb m.row r ≡ true = eq-eqb m.row r (sym e) in
@@ -89,7 +95,9 @@ module _ (s : State) (links : ℕ → Side → ℕ) (r : ℕ) (d : Side) (l : No
       let c : grown_below r d l a ≡ a = not_grown r d l a (λ j. sides_apart s links low high m a b r h v j i) in
       rw (g, c) (h.0, h.1, h.2, grown_below_ordered (m.key + 1) high b h.3 v.4 w.1 t (let z = w.0 in omega arith) y)
 
-  pub grown_ordered : (low high : ℕ) (t : Tree) → Between low high t → Reads s links t → (root t ≡ 0) ⊎ OnWay t l.key r × Toward d l.key (s.key r) → low ≤ l.key → l.key < high → Between low high (grown r d l t)
+  pub grown_ordered : (low high : ℕ) (t : Tree) → Between low high t → Reads s links t → (root t ≡ 0) ⊎ OnWay t l.key r × Toward d l.key (s.key r)
+      → low ≤ l.key → l.key < high
+      → Between low high (grown r d l t)
   grown_ordered low high empty h v w x y = (x, y, tt, tt)
   grown_ordered low high (node m a b) h v (inl z) x y = absurd (omega (arith, v.0.is_row, z))
   grown_ordered low high (node m a b) h v (inr w) x y = grown_below_ordered low high (node m a b) h v w.0 w.1 x y

@@ -23,13 +23,15 @@ module _ (s : State) (l l' : ℕ → Side → ℕ) where
   root_renamed r q empty z = ((λ e. absurd (z (sym e))), (λ e. refl))
   root_renamed r q (node m a b) z = ((λ e. let g : eqb m.row r ≡ true = eq-eqb m.row r e in rw g), (λ e. let g : eqb m.row r ≡ false = ne_eqb m.row r e in rw g))
 
-  renamed_link : (r q n : ℕ) (e : Side) (t : Tree) → r ≢ 0 → l n e ≡ root t → (l n e ≡ r → l' n e ≡ q) × (l n e ≢ r → l' n e ≡ l n e) → l' n e ≡ root (renamed r q t)
+  renamed_link : (r q n : ℕ) (e : Side) (t : Tree) → r ≢ 0 → l n e ≡ root t → (l n e ≡ r → l' n e ≡ q) × (l n e ≢ r → l' n e ≡ l n e)
+      → l' n e ≡ root (renamed r q t)
   renamed_link r q n e t z h f = dite (ℕ_discrete (root t) r)
       (λ y. f.0 (h ∙ y) ∙ sym ((root_renamed r q t z).0 y))
       (λ y. f.1 (λ x. y (sym h ∙ x)) ∙ h ∙ sym ((root_renamed r q t z).1 y))
 
   module _ (r q : ℕ) (z : r ≢ 0) (pos : 0 < q) (key : s.key q ≡ s.key r) (value : s.value q ≡ s.value r) (height : s.height q ≡ s.height r) (links : (e : Side) → l' q e ≡ l r e) (own : (e : Side) → l r e ≢ r) where
-    pub reads_renamed : (t : Tree) → Reads s l t → ((n : ℕ) (e : Side) → Stands n t → n ≢ r → (l n e ≡ r → l' n e ≡ q) × (l n e ≢ r → l' n e ≡ l n e)) → Reads s l' (renamed r q t)
+    pub reads_renamed : (t : Tree) → Reads s l t → ((n : ℕ) (e : Side) → Stands n t → n ≢ r → (l n e ≡ r → l' n e ≡ q) × (l n e ≢ r → l' n e ≡ l n e))
+        → Reads s l' (renamed r q t)
     reads_renamed empty v f = tt
     reads_renamed (node m a b) v f =
         let x = reads_renamed a v.3 (λ n e h. f n e (inr (inl h))) in
@@ -42,7 +44,9 @@ module _ (s : State) (l l' : ℕ → Side → ℕ) where
         rw g (record { is_row = v.0.is_row; key = v.0.key; value = v.0.value; height = v.0.height }, renamed_link r q m.row Left a z v.1 (f m.row Left (inl refl) e), renamed_link r q m.row Right b z v.2 (f m.row Right (inl refl) e), x, y))
 
   -- without a row that has one child, or none
-  one_of_root : (a b : Tree) (r only : ℕ) → Reads s l a → l r Left ≡ root a → l r Right ≡ root b → (l r Left ≡ 0 → only ≡ l r Right) → (l r Left ≢ 0 → only ≡ l r Left) → root (one_of a b) ≡ only
+  one_of_root : (a b : Tree) (r only : ℕ) → Reads s l a → l r Left ≡ root a → l r Right ≡ root b → (l r Left ≡ 0 → only ≡ l r Right)
+      → (l r Left ≢ 0 → only ≡ l r Left)
+      → root (one_of a b) ≡ only
   one_of_root empty b r only v h i f g = sym i ∙ sym (f h)
   one_of_root (node m x y) b r only v h i f g = sym h ∙ sym (g (λ q. let p = v.0.is_row in omega (arith, h, q)))
 
@@ -54,7 +58,8 @@ module _ (s : State) (l l' : ℕ → Side → ℕ) where
       (λ e. let g : eqb m.row r ≡ false = ne_eqb m.row r e in rw g),
     )
 
-    without_link : (n : ℕ) (e : Side) (t : Tree) → Reads s l t → l n e ≡ root t → (l n e ≡ r → l' n e ≡ only) × (l n e ≢ r → l' n e ≡ l n e) → l' n e ≡ root (without r t)
+    without_link : (n : ℕ) (e : Side) (t : Tree) → Reads s l t → l n e ≡ root t → (l n e ≡ r → l' n e ≡ only) × (l n e ≢ r → l' n e ≡ l n e)
+        → l' n e ≡ root (without r t)
     without_link n e t v h f = dite (ℕ_discrete (root t) r)
         (λ y. f.0 (h ∙ y) ∙ sym ((root_without t v).0 y))
         (λ y. f.1 (λ x. y (sym h ∙ x)) ∙ h ∙ sym ((root_without t v).1 y))
@@ -64,19 +69,25 @@ module _ (s : State) (l l' : ℕ → Side → ℕ) where
     reads_one_of (node m u v) b x y = x
 
     -- below a row nothing leads to it
-    below_left : (low high : ℕ) (m : Node) (a b : Tree) → Between low high (node m a b) → Reads s l (node m a b) → m.row ≡ r → ((n : ℕ) (e : Side) → Stands n (node m a b) → n ≢ r → (l n e ≡ r → l' n e ≡ only) × (l n e ≢ r → l' n e ≡ l n e)) → Reads s l' a
+    below_left : (low high : ℕ) (m : Node) (a b : Tree) → Between low high (node m a b) → Reads s l (node m a b) → m.row ≡ r
+        → ((n : ℕ) (e : Side) → Stands n (node m a b) → n ≢ r → (l n e ≡ r → l' n e ≡ only) × (l n e ≢ r → l' n e ≡ l n e))
+        → Reads s l' a
     below_left low high m a b o v q f = links_same s l l' a v.3 (λ n e h. (f n e (inr (inl h)) (λ x. away n h x)).1 (λ x. away (l n e) (child_stands s l a n e v.3 h (λ w. z (sym x ∙ w))) x))
       where
         away : (n : ℕ) → Stands n a → n ≢ r
         away n h x = let k = left_key s l low high m a b n o v h in let w = ap s.key (x ∙ sym q) in omega arith
 
-    below_right : (low high : ℕ) (m : Node) (a b : Tree) → Between low high (node m a b) → Reads s l (node m a b) → m.row ≡ r → ((n : ℕ) (e : Side) → Stands n (node m a b) → n ≢ r → (l n e ≡ r → l' n e ≡ only) × (l n e ≢ r → l' n e ≡ l n e)) → Reads s l' b
+    below_right : (low high : ℕ) (m : Node) (a b : Tree) → Between low high (node m a b) → Reads s l (node m a b) → m.row ≡ r
+        → ((n : ℕ) (e : Side) → Stands n (node m a b) → n ≢ r → (l n e ≡ r → l' n e ≡ only) × (l n e ≢ r → l' n e ≡ l n e))
+        → Reads s l' b
     below_right low high m a b o v q f = links_same s l l' b v.4 (λ n e h. (f n e (inr (inr h)) (λ x. away n h x)).1 (λ x. away (l n e) (child_stands s l b n e v.4 h (λ w. z (sym x ∙ w))) x))
       where
         away : (n : ℕ) → Stands n b → n ≢ r
         away n h x = let k = right_key s l low high m a b n o v h in let w = ap s.key (x ∙ sym q) in omega arith
 
-    pub reads_without : (low high : ℕ) (t : Tree) → Between low high t → Reads s l t → ((n : ℕ) (e : Side) → Stands n t → n ≢ r → (l n e ≡ r → l' n e ≡ only) × (l n e ≢ r → l' n e ≡ l n e)) → Reads s l' (without r t)
+    pub reads_without : (low high : ℕ) (t : Tree) → Between low high t → Reads s l t
+        → ((n : ℕ) (e : Side) → Stands n t → n ≢ r → (l n e ≡ r → l' n e ≡ only) × (l n e ≢ r → l' n e ≡ l n e))
+        → Reads s l' (without r t)
     reads_without low high empty o v f = tt
     reads_without low high (node m a b) o v f =
         let x = reads_without low m.key a o.2 v.3 (λ n e h. f n e (inr (inl h))) in
@@ -108,7 +119,8 @@ module _ (s : State) (l l' : ℕ → Side → ℕ) (r raised : ℕ) where
   root_turned Right m a empty h = absurd (h refl)
   root_turned Right m a (node p x y) h = refl
 
-  pub root_rotated : (d : Side) → Turning l l' r raised d → (t : Tree) → Reads s l t → (root t ≡ r → root (rotated r d t) ≡ raised) × (root t ≢ r → root (rotated r d t) ≡ root t)
+  pub root_rotated : (d : Side) → Turning l l' r raised d → (t : Tree) → Reads s l t
+      → (root t ≡ r → root (rotated r d t) ≡ raised) × (root t ≢ r → root (rotated r d t) ≡ root t)
   root_rotated d w empty v = ((λ e. absurd (w.is_row (sym e))), (λ e. refl))
   root_rotated d w (node m a b) v = (
     (λ e. let g : eqb m.row r ≡ true = eq-eqb m.row r e in let c : root (child d a b) ≡ raised = sym (reads_child s l d m a b v).0 ∙ ap (λ (x : ℕ). l x d) e ∙ w.is_child in
@@ -116,7 +128,9 @@ module _ (s : State) (l l' : ℕ → Side → ℕ) (r raised : ℕ) where
     (λ e. let g : eqb m.row r ≡ false = ne_eqb m.row r e in rw g),
   )
 
-  rotated_link : (d : Side) → Turning l l' r raised d → (n : ℕ) (e : Side) (t : Tree) → Reads s l t → l n e ≡ root t → (l n e ≡ r → l' n e ≡ raised) × (l n e ≢ r → l' n e ≡ l n e) → l' n e ≡ root (rotated r d t)
+  rotated_link : (d : Side) → Turning l l' r raised d → (n : ℕ) (e : Side) (t : Tree) → Reads s l t → l n e ≡ root t
+      → (l n e ≡ r → l' n e ≡ raised) × (l n e ≢ r → l' n e ≡ l n e)
+      → l' n e ≡ root (rotated r d t)
   rotated_link d w n e t v h f = dite (ℕ_discrete (root t) r)
       (λ y. f.0 (h ∙ y) ∙ sym ((root_rotated d w t v).0 y))
       (λ y. f.1 (λ x. y (sym h ∙ x)) ∙ h ∙ sym ((root_rotated d w t v).1 y))
@@ -124,7 +138,9 @@ module _ (s : State) (l l' : ℕ → Side → ℕ) (r raised : ℕ) where
   away_links : (u : Tree) → r ≢ 0 → Reads s l u → ((n : ℕ) → Stands n u → (n ≢ r) × (n ≢ raised)) → Elsewhere l l' r raised u → Reads s l' u
   away_links u z v k f = links_same s l l' u v (λ n e h. (f n e h (k n h).0 (k n h).1).1 (λ x. (k (l n e) (child_stands s l u n e v h (λ w. z (sym x ∙ w)))).0 x))
 
-  turned_left : (low high : ℕ) (m p : Node) (x y b : Tree) → Turning l l' r raised Left → Between low high (node m (node p x y) b) → Reads s l (node m (node p x y) b) → m.row ≡ r → p.row ≡ raised → Elsewhere l l' r raised (node m (node p x y) b) → Reads s l' (node p x (node m y b))
+  turned_left : (low high : ℕ) (m p : Node) (x y b : Tree) → Turning l l' r raised Left → Between low high (node m (node p x y) b)
+      → Reads s l (node m (node p x y) b) → m.row ≡ r → p.row ≡ raised → Elsewhere l l' r raised (node m (node p x y) b)
+      → Reads s l' (node p x (node m y b))
   turned_left low high m p x y b w o v e q f =
       let kp = left_key s l low high m (node p x y) b p.row o v (inl refl) in
       let er = ap s.key e in
@@ -142,7 +158,9 @@ module _ (s : State) (l l' : ℕ → Side → ℕ) (r raised : ℕ) where
         ),
       )
 
-  turned_right : (low high : ℕ) (m p : Node) (a x y : Tree) → Turning l l' r raised Right → Between low high (node m a (node p x y)) → Reads s l (node m a (node p x y)) → m.row ≡ r → p.row ≡ raised → Elsewhere l l' r raised (node m a (node p x y)) → Reads s l' (node p (node m a x) y)
+  turned_right : (low high : ℕ) (m p : Node) (a x y : Tree) → Turning l l' r raised Right → Between low high (node m a (node p x y))
+      → Reads s l (node m a (node p x y)) → m.row ≡ r → p.row ≡ raised → Elsewhere l l' r raised (node m a (node p x y))
+      → Reads s l' (node p (node m a x) y)
   turned_right low high m p a x y w o v e q f =
       let kp = right_key s l low high m a (node p x y) p.row o v (inl refl) in
       let er = ap s.key e in
@@ -160,13 +178,17 @@ module _ (s : State) (l l' : ℕ → Side → ℕ) (r raised : ℕ) where
         away_links y w.is_row v.4.4 (λ n h. let k = right_key s l (m.key + 1) high p x y n o.3 v.4 h in ((λ c. let g = ap s.key c in omega arith), (λ c. let g = ap s.key c in omega arith))) (λ n c h. f n c (inr (inr (inr (inr h))))),
       )
 
-  turned_reads : (d : Side) (low high : ℕ) (m : Node) (a b : Tree) → Turning l l' r raised d → Between low high (node m a b) → Reads s l (node m a b) → m.row ≡ r → Elsewhere l l' r raised (node m a b) → Reads s l' (turned d m a b)
+  turned_reads : (d : Side) (low high : ℕ) (m : Node) (a b : Tree) → Turning l l' r raised d → Between low high (node m a b) → Reads s l (node m a b)
+      → m.row ≡ r → Elsewhere l l' r raised (node m a b)
+      → Reads s l' (turned d m a b)
   turned_reads Left low high m empty b w o v e f = absurd (w.raised_is_row (sym w.is_child ∙ ap (λ (c : ℕ). l c Left) (sym e) ∙ v.1))
   turned_reads Left low high m (node p x y) b w o v e f = turned_left low high m p x y b w o v e (sym v.1 ∙ ap (λ (c : ℕ). l c Left) e ∙ w.is_child) f
   turned_reads Right low high m a empty w o v e f = absurd (w.raised_is_row (sym w.is_child ∙ ap (λ (c : ℕ). l c Right) (sym e) ∙ v.2))
   turned_reads Right low high m a (node p x y) w o v e f = turned_right low high m p a x y w o v e (sym v.2 ∙ ap (λ (c : ℕ). l c Right) e ∙ w.is_child) f
 
-  pub reads_rotated : (d : Side) (low high : ℕ) (t : Tree) → Turning l l' r raised d → Between low high t → Reads s l t → root t ≢ raised → ((n : ℕ) (e : Side) → Stands n t → l n e ≡ raised → n ≡ r) → Elsewhere l l' r raised t → Reads s l' (rotated r d t)
+  pub reads_rotated : (d : Side) (low high : ℕ) (t : Tree) → Turning l l' r raised d → Between low high t → Reads s l t → root t ≢ raised
+      → ((n : ℕ) (e : Side) → Stands n t → l n e ≡ raised → n ≡ r) → Elsewhere l l' r raised t
+      → Reads s l' (rotated r d t)
   reads_rotated d low high empty w o v top only f = tt
   reads_rotated d low high (node m a b) w o v top only f =
       let below : (c : Side) → m.row ≢ r → root (child c a b) ≢ raised = λ c e q. e (only m.row c (inl refl) ((reads_child s l c m a b v).0 ∙ q)) in
@@ -194,7 +216,9 @@ module _ (s : State) (l l' : ℕ → Side → ℕ) (r : ℕ) (leaf : Node) (says
       top Right a empty = refl
       top Right a (node p x y) = refl
 
-  first_reads : (d : Side) (m : Node) (a b : Tree) → root (child d a b) ≡ 0 → Reads s l (node m a b) → l' m.row d ≡ leaf.row → l' m.row (other d) ≡ l m.row (other d) → Reads s l' a → Reads s l' b → Reads s l' (first_on d m a b leaf)
+  first_reads : (d : Side) (m : Node) (a b : Tree) → root (child d a b) ≡ 0 → Reads s l (node m a b) → l' m.row d ≡ leaf.row
+      → l' m.row (other d) ≡ l m.row (other d) → Reads s l' a → Reads s l' b
+      → Reads s l' (first_on d m a b leaf)
   first_reads Left m empty b z v h i x y = (v.0, h, i ∙ v.2, leaf_reads, y)
   first_reads Left m (node p u w) b z v h i x y = absurd (omega (arith, v.3.0.is_row, z))
   first_reads Right m a empty z v h i x y = (v.0, i ∙ v.1, h, x, leaf_reads)
@@ -224,7 +248,8 @@ module _ (s : State) (l l' : ℕ → Side → ℕ) (r : ℕ) (leaf : Node) (says
     reads_grown low high empty o v fresh = leaf_reads
     reads_grown low high (node m a b) o v fresh = reads_grown_below low high (node m a b) o v fresh
 
-  pub root_of_grown : (d : Side) (t : Tree) → (root t ≡ 0 → root (grown r d leaf t) ≡ root (grown r d leaf t)) × (root t ≢ 0 → root (grown r d leaf t) ≡ root t)
+  pub root_of_grown : (d : Side) (t : Tree)
+      → (root t ≡ 0 → root (grown r d leaf t) ≡ root (grown r d leaf t)) × (root t ≢ 0 → root (grown r d leaf t) ≡ root t)
   root_of_grown d empty = ((λ e. refl), (λ e. absurd (e refl)))
   root_of_grown d (node m a b) = ((λ e. refl), (λ e. root_grown d (node m a b)))
 
@@ -237,7 +262,9 @@ pub root_height : (r x : ℕ) (t : Tree) → root (with_height r x t) ≡ root t
 root_height r x empty = refl
 root_height r x (node n y w) = refl
 
-pub reads_value : (s s' : State) (l : ℕ → Side → ℕ) (r : ℕ) (o : Option ℕ) (t : Tree) → Reads s l t → ((n : ℕ) → s'.key n ≡ s.key n) → ((n : ℕ) → s'.height n ≡ s.height n) → s'.value r ≡ value_word o → ((n : ℕ) → n ≢ r → s'.value n ≡ s.value n) → Reads s' l (with_value r o t)
+pub reads_value : (s s' : State) (l : ℕ → Side → ℕ) (r : ℕ) (o : Option ℕ) (t : Tree) → Reads s l t → ((n : ℕ) → s'.key n ≡ s.key n)
+    → ((n : ℕ) → s'.height n ≡ s.height n) → s'.value r ≡ value_word o → ((n : ℕ) → n ≢ r → s'.value n ≡ s.value n)
+    → Reads s' l (with_value r o t)
 reads_value s s' l r o empty v key height here there = tt
 reads_value s s' l r o (node m a b) v key height here there = (
   record { is_row = v.0.is_row; key = key m.row ∙ v.0.key; value = word; height = height m.row ∙ v.0.height },
@@ -252,7 +279,9 @@ reads_value s s' l r o (node m a b) v key height here there = (
         (λ e. let g : eqb m.row r ≡ true = eq-eqb m.row r e in rw g (ap s'.value e ∙ here))
         (λ e. let g : eqb m.row r ≡ false = ne_eqb m.row r e in rw g (there m.row e ∙ v.0.value))
 
-pub reads_height : (s s' : State) (l : ℕ → Side → ℕ) (r x : ℕ) (t : Tree) → Reads s l t → ((n : ℕ) → s'.key n ≡ s.key n) → ((n : ℕ) → s'.value n ≡ s.value n) → s'.height r ≡ x → ((n : ℕ) → n ≢ r → s'.height n ≡ s.height n) → Reads s' l (with_height r x t)
+pub reads_height : (s s' : State) (l : ℕ → Side → ℕ) (r x : ℕ) (t : Tree) → Reads s l t → ((n : ℕ) → s'.key n ≡ s.key n)
+    → ((n : ℕ) → s'.value n ≡ s.value n) → s'.height r ≡ x → ((n : ℕ) → n ≢ r → s'.height n ≡ s.height n)
+    → Reads s' l (with_height r x t)
 reads_height s s' l r x empty v key value here there = tt
 reads_height s s' l r x (node m a b) v key value here there = (
   record { is_row = v.0.is_row; key = key m.row ∙ v.0.key; value = value m.row ∙ v.0.value; height = word },

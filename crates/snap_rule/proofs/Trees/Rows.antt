@@ -57,7 +57,8 @@ without_stands r (node m a b) n h = dite (ℕ_discrete m.row r)
     (λ x. let g : eqb m.row r ≡ true = eq-eqb m.row r x in inr (one_of_stands a b n (rw g at h)))
     (λ x. let g : eqb m.row r ≡ false = ne_eqb m.row r x in below (rw g at h) (without_stands r a n) (without_stands r b n))
   where
-    below : Stands n (node m (without r a) (without r b)) → (Stands n (without r a) → Stands n a) → (Stands n (without r b) → Stands n b) → Stands n (node m a b)
+    below : Stands n (node m (without r a) (without r b)) → (Stands n (without r a) → Stands n a) → (Stands n (without r b) → Stands n b)
+        → Stands n (node m a b)
     below (inl e) f g = inl e
     below (inr (inl v)) f g = inr (inl (f v))
     below (inr (inr v)) f g = inr (inr (g v))
@@ -81,7 +82,8 @@ stands_without r (node m a b) n z c w = dite (ℕ_discrete m.row r)
     (λ e. let g : eqb m.row r ≡ true = eq-eqb m.row r e in rw g (stands_one_of m a b n (λ x. z (x ∙ e)) (c.0 e) w))
     (λ o. let g : eqb m.row r ≡ false = ne_eqb m.row r o in rw g (below w (stands_without r a n z c.1) (stands_without r b n z c.2)))
   where
-    below : Stands n (node m a b) → (Stands n a → Stands n (without r a)) → (Stands n b → Stands n (without r b)) → Stands n (node m (without r a) (without r b))
+    below : Stands n (node m a b) → (Stands n a → Stands n (without r a)) → (Stands n b → Stands n (without r b))
+        → Stands n (node m (without r a) (without r b))
     below (inl e) f g = inl e
     below (inr (inl v)) f g = inr (inl (f v))
     below (inr (inr v)) f g = inr (inr (g v))
@@ -126,7 +128,8 @@ stands_rotated r d (node m a b) n h = dite (ℕ_discrete m.row r)
     (λ e. let g : eqb m.row r ≡ true = eq-eqb m.row r e in rw g ((stands_turned d m a b n).0 h))
     (λ o. let g : eqb m.row r ≡ false = ne_eqb m.row r o in rw g (below h (stands_rotated r d a n) (stands_rotated r d b n)))
   where
-    below : Stands n (node m a b) → (Stands n a → Stands n (rotated r d a)) → (Stands n b → Stands n (rotated r d b)) → Stands n (node m (rotated r d a) (rotated r d b))
+    below : Stands n (node m a b) → (Stands n a → Stands n (rotated r d a)) → (Stands n b → Stands n (rotated r d b))
+        → Stands n (node m (rotated r d a) (rotated r d b))
     below (inl e) f g = inl e
     below (inr (inl v)) f g = inr (inl (f v))
     below (inr (inr v)) f g = inr (inr (g v))
@@ -137,7 +140,8 @@ rotated_stands r d (node m a b) n h = dite (ℕ_discrete m.row r)
     (λ e. let g : eqb m.row r ≡ true = eq-eqb m.row r e in (stands_turned d m a b n).1 (rw g at h))
     (λ o. let g : eqb m.row r ≡ false = ne_eqb m.row r o in below (rw g at h) (rotated_stands r d a n) (rotated_stands r d b n))
   where
-    below : Stands n (node m (rotated r d a) (rotated r d b)) → (Stands n (rotated r d a) → Stands n a) → (Stands n (rotated r d b) → Stands n b) → Stands n (node m a b)
+    below : Stands n (node m (rotated r d a) (rotated r d b)) → (Stands n (rotated r d a) → Stands n a) → (Stands n (rotated r d b) → Stands n b)
+        → Stands n (node m a b)
     below (inl e) f g = inl e
     below (inr (inl v)) f g = inr (inl (f v))
     below (inr (inr v)) f g = inr (inr (g v))
@@ -172,7 +176,8 @@ stands_grown_below r d l (node m a b) n h = dite (ℕ_discrete m.row r)
     (λ e. let g : eqb m.row r ≡ true = eq-eqb m.row r e in rw g (stands_first_on d m a b l n h))
     (λ o. let g : eqb m.row r ≡ false = ne_eqb m.row r o in rw g (below h (stands_grown_below r d l a n) (stands_grown_below r d l b n)))
   where
-    below : Stands n (node m a b) → (Stands n a → Stands n (grown_below r d l a)) → (Stands n b → Stands n (grown_below r d l b)) → Stands n (node m (grown_below r d l a) (grown_below r d l b))
+    below : Stands n (node m a b) → (Stands n a → Stands n (grown_below r d l a)) → (Stands n b → Stands n (grown_below r d l b))
+        → Stands n (node m (grown_below r d l a) (grown_below r d l b))
     below (inl e) f g = inl e
     below (inr (inl v)) f g = inr (inl (f v))
     below (inr (inr v)) f g = inr (inr (g v))
@@ -183,7 +188,9 @@ grown_below_stands r d l (node m a b) n h = dite (ℕ_discrete m.row r)
     (λ e. let g : eqb m.row r ≡ true = eq-eqb m.row r e in first_on_stands d m a b l n (rw g at h))
     (λ o. let g : eqb m.row r ≡ false = ne_eqb m.row r o in below (rw g at h) (grown_below_stands r d l a n) (grown_below_stands r d l b n))
   where
-    below : Stands n (node m (grown_below r d l a) (grown_below r d l b)) → (Stands n (grown_below r d l a) → (n ≡ l.row) ⊎ Stands n a) → (Stands n (grown_below r d l b) → (n ≡ l.row) ⊎ Stands n b) → (n ≡ l.row) ⊎ Stands n (node m a b)
+    below : Stands n (node m (grown_below r d l a) (grown_below r d l b)) → (Stands n (grown_below r d l a) → (n ≡ l.row) ⊎ Stands n a)
+        → (Stands n (grown_below r d l b) → (n ≡ l.row) ⊎ Stands n b)
+        → (n ≡ l.row) ⊎ Stands n (node m a b)
     below (inl e) f g = inr (inl e)
     below (inr (inl v)) f g = elim (f v) [ inl e ↦ inl e | inr x ↦ inr (inr (inl x)) ]
     below (inr (inr v)) f g = elim (g v) [ inl e ↦ inl e | inr x ↦ inr (inr (inr x)) ]

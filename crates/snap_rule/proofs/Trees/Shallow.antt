@@ -54,7 +54,10 @@ size_pairs (node n a b) h = size_node n a b h.1 (size_pairs a h.2) (size_pairs b
     entry_length k None z = absurd z
     entry_length k (Some v) z = refl
 
-    size_node : (n : Node) (a b : Tree) → HasValue n.value ⊎ IsFull a × IsFull b → (size a ≤ 2 * length (pairs a)) × (IsFull a → size a + 1 ≤ 2 * length (pairs a)) → (size b ≤ 2 * length (pairs b)) × (IsFull b → size b + 1 ≤ 2 * length (pairs b)) → (size (node n a b) ≤ 2 * length (pairs (node n a b))) × (IsFull (node n a b) → size (node n a b) + 1 ≤ 2 * length (pairs (node n a b)))
+    size_node : (n : Node) (a b : Tree) → HasValue n.value ⊎ IsFull a × IsFull b
+        → (size a ≤ 2 * length (pairs a)) × (IsFull a → size a + 1 ≤ 2 * length (pairs a))
+        → (size b ≤ 2 * length (pairs b)) × (IsFull b → size b + 1 ≤ 2 * length (pairs b))
+        → (size (node n a b) ≤ 2 * length (pairs (node n a b))) × (IsFull (node n a b) → size (node n a b) + 1 ≤ 2 * length (pairs (node n a b)))
     size_node n a b (inl v) p q = let e = entry_length n.key n.value v in rw (length-append, length-append) (omega (arith, e, p.0, q.0), λ z. omega (arith, e, p.0, q.0))
     size_node n a b (inr v) p q = let i = p.1 v.0 in let j = q.1 v.1 in rw (length-append, length-append) (omega (arith, i, j), λ z. omega (arith, i, j))
 

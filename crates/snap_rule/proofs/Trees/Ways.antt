@@ -54,12 +54,14 @@ way_without r (node m a b) k n z c w = dite (ℕ_discrete m.row r)
     (λ e. let g : eqb m.row r ≡ true = eq-eqb m.row r e in rw g (way_one_of m a b k n (λ x. z (x ∙ e)) (c.0 e) w))
     (λ o. let g : eqb m.row r ≡ false = ne_eqb m.row r o in rw g (below w (way_without r a k n z c.1) (way_without r b k n z c.2)))
   where
-    below : OnWay (node m a b) k n → (OnWay a k n → OnWay (without r a) k n) → (OnWay b k n → OnWay (without r b) k n) → OnWay (node m (without r a) (without r b)) k n
+    below : OnWay (node m a b) k n → (OnWay a k n → OnWay (without r a) k n) → (OnWay b k n → OnWay (without r b) k n)
+        → OnWay (node m (without r a) (without r b)) k n
     below (inl e) f g = inl e
     below (inr (inl v)) f g = inr (inl (v.0, f v.1))
     below (inr (inr v)) f g = inr (inr (v.0, g v.1))
 
-way_turned : (d : Side) (low high : ℕ) (m : Node) (a b : Tree) (k n : ℕ) → n ≢ m.row → Between low high (node m a b) → OnWay (node m a b) k n → OnWay (turned d m a b) k n
+way_turned : (d : Side) (low high : ℕ) (m : Node) (a b : Tree) (k n : ℕ) → n ≢ m.row → Between low high (node m a b) → OnWay (node m a b) k n
+    → OnWay (turned d m a b) k n
 way_turned d low high m a b k n z h (inl e) = absurd (z e)
 way_turned Left low high m empty b k n z h (inr w) = inr w
 way_turned Left low high m (node p x y) b k n z h (inr (inl (l, inl e))) = inl e
@@ -79,7 +81,8 @@ way_rotated r d low high (node m a b) k n z h w = dite (ℕ_discrete m.row r)
     (λ e. let g : eqb m.row r ≡ true = eq-eqb m.row r e in rw g (way_turned d low high m a b k n (λ x. z (x ∙ e)) h w))
     (λ o. let g : eqb m.row r ≡ false = ne_eqb m.row r o in rw g (below w (way_rotated r d low m.key a k n z h.2) (way_rotated r d (m.key + 1) high b k n z h.3)))
   where
-    below : OnWay (node m a b) k n → (OnWay a k n → OnWay (rotated r d a) k n) → (OnWay b k n → OnWay (rotated r d b) k n) → OnWay (node m (rotated r d a) (rotated r d b)) k n
+    below : OnWay (node m a b) k n → (OnWay a k n → OnWay (rotated r d a) k n) → (OnWay b k n → OnWay (rotated r d b) k n)
+        → OnWay (node m (rotated r d a) (rotated r d b)) k n
     below (inl e) f g = inl e
     below (inr (inl v)) f g = inr (inl (v.0, f v.1))
     below (inr (inr v)) f g = inr (inr (v.0, g v.1))
@@ -106,7 +109,8 @@ way_grown_below r d l (node m a b) k n w = dite (ℕ_discrete m.row r)
     (λ e. let g : eqb m.row r ≡ true = eq-eqb m.row r e in rw g (way_first_on d m a b l k n w))
     (λ o. let g : eqb m.row r ≡ false = ne_eqb m.row r o in rw g (below w (way_grown_below r d l a k n) (way_grown_below r d l b k n)))
   where
-    below : OnWay (node m a b) k n → (OnWay a k n → OnWay (grown_below r d l a) k n) → (OnWay b k n → OnWay (grown_below r d l b) k n) → OnWay (node m (grown_below r d l a) (grown_below r d l b)) k n
+    below : OnWay (node m a b) k n → (OnWay a k n → OnWay (grown_below r d l a) k n) → (OnWay b k n → OnWay (grown_below r d l b) k n)
+        → OnWay (node m (grown_below r d l a) (grown_below r d l b)) k n
     below (inl e) f g = inl e
     below (inr (inl v)) f g = inr (inl (v.0, f v.1))
     below (inr (inr v)) f g = inr (inr (v.0, g v.1))
