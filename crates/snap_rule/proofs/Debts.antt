@@ -138,7 +138,7 @@ none_fits s = record { past = λ n x h. absurd h; owed = λ n h. absurd h }
 -- lists
 pub noted_here : (s : State) (n : ℕ) (l : List Mark) → n ≢ 0 → IsListed n (s.stamp n) (noted s n l)
 noted_here s zero l z = absurd (z refl)
-noted_here s (suc n) l z = inl (refl, refl)
+noted_here s (suc n) l z = inl refl
 
 pub noted_there : (s : State) (m : ℕ) (l : List Mark) (n x : ℕ) → IsListed n x l → IsListed n x (noted s m l)
 noted_there s zero l n x h = h
@@ -146,7 +146,7 @@ noted_there s (suc m) l n x h = inr h
 
 pub noted_back : (s : State) (m : ℕ) (l : List Mark) (n x : ℕ) → IsListed n x (noted s m l) → (m ≢ 0) × (n ≡ m) × (x ≡ s.stamp n) ⊎ IsListed n x l
 noted_back s zero l n x h = inr h
-noted_back s (suc m) l n x (inl h) = inl ((λ e. omega (arith, e)), h.0, h.1 ∙ sym (ap s.stamp h.0))
+noted_back s (suc m) l n x (inl h) = let e : n ≡ suc m = ap (λ (y : Mark). y.row) h in inl ((λ z. omega (arith, z)), e, ap (λ (y : Mark). y.stamp) h ∙ sym (ap s.stamp e))
 noted_back s (suc m) l n x (inr h) = inr h
 
 pub taken_back : (r : ℕ) (l : List Mark) (n x : ℕ) → IsListed n x (taken r l) → (n ≢ r) × IsListed n x l
@@ -156,12 +156,12 @@ taken_back r (m ∷ l) n x h = dite (ℕ_discrete m.row r)
     (λ e. let g : eqb m.row r ≡ false = ne_eqb m.row r e in below (rw g at h) e (taken_back r l n x))
   where
     below : IsListed n x (m ∷ taken r l) → m.row ≢ r → (IsListed n x (taken r l) → (n ≢ r) × IsListed n x l) → (n ≢ r) × IsListed n x (m ∷ l)
-    below (inl q) e f = ((λ z. e (sym q.0 ∙ z)), inl q)
+    below (inl q) e f = ((λ z. e (sym (ap (λ (y : Mark). y.row) q) ∙ z)), inl q)
     below (inr q) e f = let y = f q in (y.0, inr y.1)
 
 pub taken_there : (r : ℕ) (l : List Mark) (n x : ℕ) → n ≢ r → IsListed n x l → IsListed n x (taken r l)
 taken_there r [] n x z h = h
-taken_there r (m ∷ l) n x z (inl q) = let g : eqb m.row r ≡ false = ne_eqb m.row r (λ e. z (q.0 ∙ e)) in rw g (inl q)
+taken_there r (m ∷ l) n x z (inl q) = let g : eqb m.row r ≡ false = ne_eqb m.row r (λ e. z (ap (λ (y : Mark). y.row) q ∙ e)) in rw g (inl q)
 taken_there r (m ∷ l) n x z (inr h) = dite (ℕ_discrete m.row r)
     (λ e. let g : eqb m.row r ≡ true = eq-eqb m.row r e in rw g (taken_there r l n x z h))
     (λ e. let g : eqb m.row r ≡ false = ne_eqb m.row r e in rw g (inr (taken_there r l n x z h)))

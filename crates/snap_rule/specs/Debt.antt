@@ -19,9 +19,11 @@ abbrev pub no_debt : Debt
 no_debt = record { to_do = None; list = []; turning = None }
 
 -- row n is listed with stamp x
+abbrev pub mark : ℕ → ℕ → Mark
+mark n x = record { row = n; stamp = x }
+
 abbrev pub IsListed : ℕ → ℕ → List Mark → Type 0
-IsListed n x [] = ⊥
-IsListed n x (m ∷ l) = (n ≡ m.row) × (x ≡ m.stamp) ⊎ IsListed n x l
+IsListed n x l = In (mark n x) l
 
 -- the pass with this debt owes row n
 abbrev pub Owes : State → Debt → ℕ → Type 0

@@ -3,7 +3,7 @@
 use Rattle.std.specs.Prelude.{None, Some, [], ◌∷◌, ◌≡◌}
 use Rattle.snap_model.specs.declared.call.Call.TheVariants.{Put}
 use Rattle.snap_stamp.specs.declared.side.Side.TheVariants.{Left, Right}
-use Rattle.snap_rule.specs.Debt.{OnPath, Owes, OwesNone}
+use Rattle.snap_rule.specs.Debt.{mark, OnPath, Owes, OwesNone}
 use Rattle.snap_rule.specs.Kinds.Rotation.{MayLinkParent, parent_linked, shrinking_marked}
 use Rattle.snap_rule.specs.Position.{IsPlaced}
 use Rattle.snap_rule.specs.Rule.{IsLive, TableOk}
@@ -55,7 +55,7 @@ pub record LeavesWay : Type 0 where
 -- another pass that lists row 1 with its mark owes it on the path of key 3 before that step, and afterwards owes it beside
 -- the path. So a row that one pass is lowering must be owed by no other
 abbrev pub idle_debt : Debt
-idle_debt = record { to_do = Some 3; list = record { row = 1; stamp = 2 } ∷ []; turning = None }
+idle_debt = record { to_do = Some 3; list = mark 1 2 ∷ []; turning = None }
 
 pub record ListedLeaves : Type 0 where
   pub may : MayLinkParent turning 0 Right 1 Left 2
@@ -66,7 +66,7 @@ pub record ListedLeaves : Type 0 where
 -- a pass that lists a stamp which the row has yet to reach owes nothing, and owes the row as soon as it gets that stamp. So
 -- listed stamps must be of the past
 abbrev pub early_debt : Debt
-early_debt = record { to_do = None; list = record { row = 1; stamp = 2 } ∷ []; turning = None }
+early_debt = record { to_do = None; list = mark 1 2 ∷ []; turning = None }
 
 abbrev pub EarlyStamp : Type 0
 EarlyStamp = (s : State) → s.stamp 1 ≡ 0 → OwesNone s early_debt × Owes (shrinking_marked s 1) early_debt 1 × ¬ OnPath (shrinking_marked s 1) early_debt 1

@@ -11,11 +11,13 @@ pub struct Mark {
     pub stamp: Stamp,
 }
 
-/// What a pass in a write owes to the balance of the tree: the key on whose search path its rows stand, the rows, and
-/// the row that it has marked as shrinking and not yet cleared.
+/// What a pass in a write owes to the balance of the tree.
 pub struct Debt {
+    /// The key on whose search path the owed rows stand.
     pub to_do: Option<Key>,
+    /// Rows, each owed as long as it has this stamp.
     pub list: LinkedList<Mark>,
+    /// The row that the pass is lowering: it has marked the row as shrinking, and not yet cleared the mark.
     pub turning: Option<RowNo>,
 }
 
@@ -29,12 +31,12 @@ pub fn under_room()
     ensures { UnderRoom }
 {}
 
-/// A row that a pass holds is turned by no other pass.
+/// A row that a pass holds is lowered by no other pass.
 pub fn free_known()
     ensures { FreeKnown }
 {}
 
-/// The row that a pass turns stays locked by it.
+/// The row that a pass is lowering stays locked by it.
 pub fn turns_kept()
     ensures { TurnsKept }
 {}

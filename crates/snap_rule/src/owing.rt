@@ -77,7 +77,7 @@ pub fn clear_owes()
     ensures { ClearOwes }
 {}
 
-/// After `mark_shrinking` the pass turns the row, and owes it.
+/// After `mark_shrinking` the pass is lowering the row, and owes it.
 pub fn shrink_turns()
     ensures { ShrinkTurns }
 {}

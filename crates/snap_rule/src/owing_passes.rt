@@ -7,7 +7,7 @@ pub fn debt_step_holds()
     ensures { DebtStepHolds }
 {}
 
-/// The views tell that a row that a pass turns is locked by it.
+/// The views tell that a row which a pass is lowering is locked by it.
 pub fn turns_known()
     ensures { TurnsKnown }
 {}

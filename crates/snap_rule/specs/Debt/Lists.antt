@@ -1,6 +1,6 @@
 -- A row comes onto a list or is taken off, and the to-do key comes to be that of a row. Row 0 is never listed and has no key.
 use Rattle.std.specs.Prelude.{List, None, Option, Some, [], if◌then◌else◌, suc, zero, ℕ, ◌==◌, ◌∷◌, ◌≡◌, ◌≢◌}
-use Rattle.snap_rule.specs.Debt.{no_debt}
+use Rattle.snap_rule.specs.Debt.{mark, no_debt}
 use Rattle.snap_rule.specs.State.{State}
 use Rattle.snap_rule.specs.declared.debt.Debt.{Debt}
 use Rattle.snap_rule.specs.declared.debt.Mark.{Mark}
@@ -8,7 +8,7 @@ use Rattle.snap_rule.specs.declared.debt.Mark.{Mark}
 -- a row is listed with the stamp that it has
 abbrev pub noted : State → ℕ → List Mark → List Mark
 noted s zero l = l
-noted s (suc n) l = record { row = suc n; stamp = s.stamp (suc n) } ∷ l
+noted s (suc n) l = mark (suc n) (s.stamp (suc n)) ∷ l
 
 -- a row is taken off
 abbrev pub taken : ℕ → List Mark → List Mark
