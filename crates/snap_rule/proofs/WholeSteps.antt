@@ -15,7 +15,7 @@ use Rattle.snap_rule.specs.declared.reader.Reading.{Reading}
 use Rattle.snap_rule.specs.declared.reader.Reading.TheVariants.{Resting, On}
 use Rattle.snap_rule.specs.declared.quiescence.Trying.TheVariants.{Idle, Since}
 use Rattle.snap_rule.proofs.Moments.{begins_trans}
-use Rattle.snap_rule.proofs.Readers.Kept.{stage_kept}
+use Rattle.snap_rule.proofs.Readers.Kept.{point_kept}
 use Rattle.snap_rule.proofs.Quiet.{quiet_kept}
 use Rattle.snap_rule.proofs.Calm.{calm_kept}
 use Rattle.snap_rule.proofs.InChange.{doing_kept}
@@ -51,7 +51,7 @@ concerned s (Turned row) n ok h c = subst (WasLinked s) (sym c) (inr (ok.rows ro
 module _ (s s' : State) (ev : Evolves s s') where
   reading_kept : (seen : List Entry) (r : Reading) → Begins seen s.history → ReadingOk s seen r → ReadingOk s' seen r
   reading_kept seen Resting b h = tt
-  reading_kept seen (On k t) b h = stage_kept s s' ev seen k t b h
+  reading_kept seen (On k t) b h = point_kept s s' ev seen k t b h
 
   trying_kept : (t : Trying) → TryingOk s t → TryingOk s' t
   trying_kept Idle h = tt

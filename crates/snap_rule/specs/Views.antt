@@ -5,7 +5,7 @@ use Rattle.snap_model.specs.History.{Begins}
 use Rattle.snap_model.specs.declared.call.Entry.{Entry}
 use Rattle.snap_rule.specs.Doing.{Apart, Concerns, DoingOk}
 use Rattle.snap_rule.specs.Quiescence.{CalmOk, QuietOk}
-use Rattle.snap_rule.specs.Reader.{StageOk}
+use Rattle.snap_rule.specs.Reader.{PointOk}
 use Rattle.snap_rule.specs.Rule.{TableOk}
 use Rattle.snap_rule.specs.State.{State, WasLinked}
 use Rattle.snap_rule.specs.declared.change.Doing.{Doing}
@@ -23,7 +23,7 @@ pub record View : Type 0 where
 
 abbrev pub ReadingOk : State → List Entry → Reading → Type 0
 ReadingOk s seen Resting = Unit {0}
-ReadingOk s seen (On k t) = StageOk s seen k t
+ReadingOk s seen (On k t) = PointOk s seen k t
 
 abbrev pub TryingOk : State → Trying → Type 0
 TryingOk s Idle = Unit {0}

@@ -11,7 +11,7 @@ use Rattle.snap_stamp.specs.Stamps.{IsUnmarked, IsUnlinked}
 use Rattle.snap_rule.specs.Evolves.{Evolves}
 use Rattle.snap_rule.specs.Position.{OnImage, IsPlaced, Faces, IsRecorded, IsStanding}
 use Rattle.snap_rule.specs.ChildCheck.{WasAbsent, HasTold, IsGone, IsCandidate, IsChild}
-use Rattle.snap_rule.specs.Reader.{StageOk, ReaderOk}
+use Rattle.snap_rule.specs.Reader.{PointOk, ReaderOk}
 use Rattle.snap_rule.specs.declared.reader.Point.{Point}
 use Rattle.snap_rule.specs.declared.reader.Point.TheVariants.{Standing, NoLink, Linked, Stamped, Relinked, Confirmed, ConfirmedNone, Matched}
 use Rattle.snap_rule.proofs.Moments.{begins_trans, later_history, now, at_moment, seen_less}
@@ -106,18 +106,18 @@ module _ (s s' : State) (ev : Evolves s s') where
   child_kept : (c w : ℕ) → IsChild s c w → IsChild s' c w
   child_kept c w h = record { linked = ev.linked c h.linked; stamp = recorded_kept c w h.stamp }
 
-  pub stage_kept : (seen : List Entry) (k : ℕ) (t : Point) → Begins seen s.history → StageOk s seen k t → StageOk s' seen k t
-  stage_kept seen k (Standing n v d) b h = standing_kept seen k n v d b h
-  stage_kept seen k (NoLink n v d) b h = (standing_kept seen k n v d b h.0, λ e. absent_kept seen k (h.1 (same_stamp n v h.0.stamp e)))
-  stage_kept seen k (Linked n v d c) b h = (standing_kept seen k n v d b h.0, ev.linked c h.1)
-  stage_kept seen k (Stamped n v d c w) b h = (standing_kept seen k n v d b h.0, child_kept c w h.1, unlinked_kept seen c b h.1.linked h.2)
-  stage_kept seen k (Relinked n v c w) b h = (recorded_kept n v h.0, child_kept c w h.1, λ e. candidate_kept seen k c w b h.1.linked h.1.stamp (h.2 (same_stamp n v h.0 e)))
-  stage_kept seen k (Confirmed c w) b h = (child_kept c w h.0, candidate_kept seen k c w b h.0.linked h.0.stamp h.1)
-  stage_kept seen k ConfirmedNone b h = absent_kept seen k h
-  stage_kept seen k (Matched c) b h = (ev.linked c h.0, ev.key c h.0 ∙ h.1, told_kept seen c k b h.0 h.1 h.2)
+  pub point_kept : (seen : List Entry) (k : ℕ) (t : Point) → Begins seen s.history → PointOk s seen k t → PointOk s' seen k t
+  point_kept seen k (Standing n v d) b h = standing_kept seen k n v d b h
+  point_kept seen k (NoLink n v d) b h = (standing_kept seen k n v d b h.0, λ e. absent_kept seen k (h.1 (same_stamp n v h.0.stamp e)))
+  point_kept seen k (Linked n v d c) b h = (standing_kept seen k n v d b h.0, ev.linked c h.1)
+  point_kept seen k (Stamped n v d c w) b h = (standing_kept seen k n v d b h.0, child_kept c w h.1, unlinked_kept seen c b h.1.linked h.2)
+  point_kept seen k (Relinked n v c w) b h = (recorded_kept n v h.0, child_kept c w h.1, λ e. candidate_kept seen k c w b h.1.linked h.1.stamp (h.2 (same_stamp n v h.0 e)))
+  point_kept seen k (Confirmed c w) b h = (child_kept c w h.0, candidate_kept seen k c w b h.0.linked h.0.stamp h.1)
+  point_kept seen k ConfirmedNone b h = absent_kept seen k h
+  point_kept seen k (Matched c) b h = (ev.linked c h.0, ev.key c h.0 ∙ h.1, told_kept seen c k b h.0 h.1 h.2)
 
   pub reader_kept : (seen : List Entry) (k : ℕ) (t : Point) → ReaderOk s seen k t → ReaderOk s' seen k t
   reader_kept seen k t h = record {
     begins = begins_trans seen s.history s'.history h.begins ev.history;
-    at_stage = stage_kept seen k t h.begins h.at_stage;
+    at_point = point_kept seen k t h.begins h.at_point;
   }

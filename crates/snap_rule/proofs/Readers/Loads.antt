@@ -142,7 +142,7 @@ module _ (s : State) (tree_ok : TreeOk s) (links_ok : LinksOk s) (changes_ok : C
   pub link_none : (seen : List Entry) (k n v : ℕ) (d : Side) → ReaderOk s seen k (Standing n v d) → s.link n d ≡ 0 → ReaderOk s seen k (NoLink n v d)
   link_none seen k n v d h z = record {
     begins = h.begins;
-    at_stage = (h.at_stage, λ e. absent_at seen k n v d h.begins h.at_stage e z (in_tree seen k n (h.at_stage.placed e)));
+    at_point = (h.at_point, λ e. absent_at seen k n v d h.begins h.at_point e z (in_tree seen k n (h.at_point.placed e)));
   }
 
   link_to : (n c : ℕ) (d : Side) → s.link n d ≡ c → c ≢ 0 → (s.link n d ≡ 0) ⊎ In (s.link n d) s.linked → In c s.linked
@@ -154,14 +154,14 @@ module _ (s : State) (tree_ok : TreeOk s) (links_ok : LinksOk s) (changes_ok : C
       → ReaderOk s seen k (Linked n v d c)
   link_found seen k n v c d h e z = record {
     begins = h.begins;
-    at_stage = (h.at_stage, link_to n c d e z (links_ok.links n d h.at_stage.stamp.reached));
+    at_point = (h.at_point, link_to n c d e z (links_ok.links n d h.at_point.stamp.reached));
   }
 
 -- the start of a way
 pub way_starts : (s : State) (seen : List Entry) (k : ℕ) → Begins seen s.history → ReaderOk s seen k (Standing 0 0 Right)
 way_starts s seen k b = record {
   begins = b;
-  at_stage = record { stamp = record { reached = inl refl; unmarked = refl; recorded = omega arith }; faces = inl (refl, refl); placed = λ e. inl refl };
+  at_point = record { stamp = record { reached = inl refl; unmarked = refl; recorded = omega arith }; faces = inl (refl, refl); placed = λ e. inl refl };
 }
 
 -- the load of the child's stamp, without a mark
@@ -169,5 +169,5 @@ pub stamp_loaded : (s : State) (seen : List Entry) (k n v c w : ℕ) (d : Side) 
     → ReaderOk s seen k (Stamped n v d c w)
 stamp_loaded s seen k n v c w d h e u = record {
   begins = h.begins;
-  at_stage = (h.at_stage.0, record { linked = h.at_stage.1; stamp = record { reached = inr h.at_stage.1; unmarked = u; recorded = omega (arith, e) } }, λ m. absurd (unmarked_unlinked w u (rw e at m)));
+  at_point = (h.at_point.0, record { linked = h.at_point.1; stamp = record { reached = inr h.at_point.1; unmarked = u; recorded = omega (arith, e) } }, λ m. absurd (unmarked_unlinked w u (rw e at m)));
 }

@@ -103,8 +103,8 @@ module _ (s : State) (tree_ok : TreeOk s) (links_ok : LinksOk s) (sharing_ok : S
   pub link_again : (seen : List Entry) (k n v c w : ℕ) (d : Side) → ReaderOk s seen k (Stamped n v d c w) → s.link n d ≡ c
       → ReaderOk s seen k (Relinked n v c w)
   link_again seen k n v c w d h q =
-      let a = h.at_stage in
+      let a = h.at_point in
       record {
         begins = h.begins;
-        at_stage = (a.0.stamp, a.1, λ e. candidate seen k n v c w d h.begins a.0 e q (linked_row s tree_ok links_ok changes_ok c a.1.linked) a.1.stamp.unmarked a.2 (in_tree s tree_ok links_ok changes_ok seen k n (a.0.placed e)));
+        at_point = (a.0.stamp, a.1, λ e. candidate seen k n v c w d h.begins a.0 e q (linked_row s tree_ok links_ok changes_ok c a.1.linked) a.1.stamp.unmarked a.2 (in_tree s tree_ok links_ok changes_ok seen k n (a.0.placed e)));
       }
