@@ -1,10 +1,10 @@
 -- A row's words among the words of a table.
-use Rattle.std.proofs.Common.{◌≡◌, ◌≢◌, ◌==◌, cond, ℕ, zero, suc, ◌+◌, ◌*◌, ◌<◌, ◌≤◌, List, [], ◌∷◌, length, get_or, set, sym, refl, ap, ◌∙◌, arith, length-set, get_or-set_same, get_or-set_other}
-use Rattle.snap_steps.specs.Words.{Row, Memory, words_of_rows, words_of, field, with_field, row, empty_row}
+use Rattle.std.proofs.Common.{◌≡◌, ℕ, suc, ◌+◌, ◌*◌, arith, List, ◌∷◌, get_or, refl, zero, ◌<◌, [], length, ap, ◌∙◌, set, ◌≤◌, length-set, ◌≢◌, ◌==◌, cond, sym, get_or-set_same, get_or-set_other}
 use Rattle.snap_stamp.specs.Layout.{place_of, word_at}
-use Rattle.snap_steps.specs.Rule.{IsMemory}
 use Rattle.snap_stamp.specs.declared.layout.Field.{Field}
 use Rattle.snap_stamp.specs.declared.layout.Field.TheVariants.{Key, Birth, Stamp, Lock, Height, Left, Right, Value}
+use Rattle.snap_steps.specs.Memory.{Row, words_of_rows, field, row, with_field, Memory, words_of, empty_row}
+use Rattle.snap_steps.specs.Rule.Words.{IsMemory}
 use Rattle.snap_steps.specs.declared.rule.About.{About}
 
 eight : (r p : ℕ) → 8 * suc r + p ≡ suc (suc (suc (suc (suc (suc (suc (suc (8 * r + p))))))))

@@ -1,40 +1,17 @@
--- Histories: beginnings, and one entry more.
-use Rattle.std.proofs.Common.{◌≡◌, ◌≢◌, ℕ, zero, suc, ◌+◌, ◌<◌, ◌≤◌, Bool, true, false, cond, List, [], ◌∷◌, ◌++◌, length, refl, sym, ap, ◌∙◌, subst, arith, append_assoc, append-nil, length-append, eq-eqb, ne_eqb, nat_lt, Option}
+-- Histories: prefixes, entries of one number, and one entry more.
+use Rattle.std.proofs.Common.{◌≡◌, ℕ, ◌+◌, Bool, true, false, cond, List, [], ◌∷◌, ◌++◌, refl, ap, ◌∙◌, eq-eqb, ◌≢◌, append-nil, ne_eqb, sym, subst, length, arith, nat_lt, ◌≤◌}
 use Rattle.std.proofs.lemmas.Bool.{cond_both}
 use Rattle.std.proofs.lemmas.Bool.Decides.{nat_tests}
+use Rattle.snap_model.specs.History.{calls_of, after_call, after_from, call_key, IsLegalFrom, told, IsLegal, Begins}
 use Rattle.snap_model.specs.SortedMap.{Pairs as Map, at}
-use Rattle.snap_model.specs.History.{after_call, call_key, after_from, told, IsLegalFrom, IsLegal, calls_of, Begins}
-use Rattle.snap_steps.specs.History.{longer}
-use Rattle.snap_steps.specs.Rule.{AreTheirs}
-use Rattle.snap_steps.specs.declared.view.Admitted.{Admitted}
 use Rattle.snap_model.specs.declared.call.Entry.{Entry}
-
-module _ {A : Type 0} where
-  pub begins_itself : (xs : List A) → Begins xs xs
-  begins_itself xs = record { rest = []; is = append-nil xs }
-
-  pub begins_more : (xs ys zs : List A) → Begins xs ys → Begins xs (ys ++ zs)
-  begins_more xs ys zs b = record { rest = b.rest ++ zs; is = sym (append_assoc xs b.rest zs) ∙ ap (λ (l : List A). l ++ zs) b.is }
-
-  pub begins_length : (xs ys : List A) → Begins xs ys → length xs ≤ length ys
-  begins_length xs ys b = omega (arith, length-append xs b.rest, ap length b.is)
-
-  pub begins_whole : (xs ys : List A) → Begins xs ys → length ys ≤ length xs → xs ≡ ys
-  begins_whole xs ys b h = go b.rest b.is
-    where
-      go : (zs : List A) → xs ++ zs ≡ ys → xs ≡ ys
-      go [] e = sym (append-nil xs) ∙ e
-      go (z ∷ zs) e = absurd (omega (arith, length-append xs (z ∷ zs), ap length e))
-
-  -- of two beginnings of one list the shorter begins the longer
-  pub begins_both : (xs ys log : List A) → Begins xs log → Begins ys log → length xs ≤ length ys → Begins xs ys
-  begins_both [] ys log a b h = record { rest = ys; is = refl }
-  begins_both (x ∷ xs) [] log a b h = absurd (omega arith)
-  begins_both (x ∷ xs) (y ∷ ys) log a b h =
-      let e : x ∷ (xs ++ a.rest) ≡ y ∷ (ys ++ b.rest) = a.is ∙ sym b.is in
-      let same : x ≡ y = cc in let tails : xs ++ a.rest ≡ ys ++ b.rest = cc in
-      let r = begins_both xs ys (ys ++ b.rest) (record { rest = a.rest; is = tails }) (record { rest = b.rest; is = refl }) (omega arith) in
-      record { rest = r.rest; is = λ i. same i ∷ r.is i }
+use Rattle.snap_steps.specs.Histories.{longer}
+use Rattle.snap_steps.proofs.Prefixes.{begins_itself, begins_both, begins_length, begins_whole, begins_more}
+use Rattle.snap_steps.specs.Rule.History.{AreTheirs, AllBegin}
+use Rattle.snap_steps.specs.declared.view.Admitted.{Admitted}
+use Rattle.snap_steps.specs.Counting.{times}
+use Rattle.snap_steps.specs.Numbers.{numbers_of}
+use Rattle.snap_steps.proofs.Totals.{one_same}
 
 pub of-append : (l m : List Entry) (i : ℕ) → calls_of (l ++ m) i ≡ calls_of l i ++ calls_of m i
 of-append [] m i = refl
@@ -92,3 +69,25 @@ of_between xs ys log i a b e = begins_whole (calls_of ys i) (calls_of log i) (of
 pub theirs_between : (xs ys log : List Entry) (l : List Admitted) → Begins xs ys → Begins ys log → AreTheirs log l → AreTheirs xs l → AreTheirs ys l
 theirs_between xs ys log [] a b h k = tt
 theirs_between xs ys log (x ∷ more) a b h k = (h.0 ∙ sym (of_between xs ys log x.who a b (sym k.0 ∙ h.0)), theirs_between xs ys log more a b h.1 k.1)
+
+pub theirs_more : (log : List Entry) (l m : List Admitted) → AreTheirs log l → AreTheirs log m → AreTheirs log (l ++ m)
+theirs_more log [] m h k = k
+theirs_more log (x ∷ xs) m h k = (h.0, theirs_more log xs m h.1 k)
+
+abbrev pub AreShorter : List (List Entry) → List Entry → Type 0
+AreShorter [] seen = Unit {0}
+AreShorter (h ∷ hs) seen = (length h ≤ length seen) × AreShorter hs seen
+
+pub all_begin : (log seen : List Entry) (hs : List (List Entry)) → Begins seen log → AllBegin hs log → AreShorter hs seen → AllBegin hs seen
+all_begin log seen [] a h l = tt
+all_begin log seen (x ∷ xs) a h l = (begins_both x seen log h.0 a l.0, all_begin log seen xs a h.1 l.1)
+
+pub all_begin_more : (log : List Entry) (e : Entry) (hs : List (List Entry)) → AllBegin hs log → AllBegin hs (log ++ e ∷ [])
+all_begin_more log e [] h = tt
+all_begin_more log e (x ∷ xs) h = (begins_more x log (e ∷ []) h.0, all_begin_more log e xs h.1)
+
+pub theirs_later : (log : List Entry) (e : Entry) (l : List Admitted) → times e.who (numbers_of l) ≡ 0 → AreTheirs log l → AreTheirs (log ++ e ∷ []) l
+theirs_later log e [] none h = tt
+theirs_later log e (x ∷ xs) none h =
+    let ne : e.who ≢ x.who = λ same. omega (arith, one_same e.who x.who same) in
+    (h.0 ∙ sym (of_other log e x.who ne), theirs_later log e xs (omega arith) h.1)

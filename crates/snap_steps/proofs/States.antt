@@ -1,17 +1,17 @@
 -- What a table's state becomes where one word changes.
-use Rattle.std.proofs.Common.{◌≡◌, ◌≢◌, ℕ, ◌<◌, Bool, true, false, eqb, cond, eqb-true, List, length, set, refl, sym, ap, ◌∙◌}
+use Rattle.std.proofs.Common.{ℕ, ◌≡◌, ◌≢◌, refl, sym, Bool, true, false, eqb, cond, eqb-true, ap, ◌<◌, length, ◌∙◌}
 use mathlib.Core.Logic.{dite}
 use native.Mathlib.Decide.{ℕ_discrete}
+use Rattle.snap_rule.proofs.Updates.{changed_same, changed_other}
+use Rattle.snap_rule.specs.State.{Beside}
 use Rattle.snap_stamp.specs.declared.layout.Field.{Field}
 use Rattle.snap_stamp.specs.declared.layout.Field.TheVariants.{Key, Birth, Stamp, Lock, Height, Left, Right, Value}
-use Rattle.snap_steps.specs.Words.{Memory, Row, row, field, with_field}
-use Rattle.snap_steps.specs.States.{link_field, state_with, state_of, with_word}
-use Rattle.snap_steps.proofs.Cells.{changed, row_same, row_other}
 use Rattle.snap_stamp.specs.declared.side.Side.{Side}
+use Rattle.snap_steps.specs.Memory.{Row, field, with_field, Memory, row}
+use Rattle.snap_steps.specs.States.{link_field, state_with, with_word, state_of}
+use Rattle.snap_steps.proofs.Cells.{changed, row_same, row_other}
 use Rattle.snap_stamp.specs.declared.side.Side.TheVariants as sides
 use Rattle.snap_rule.specs.Updates as updates
-use Rattle.snap_rule.specs.State.{State, Beside}
-use Rattle.snap_rule.proofs.Updates.{changed_same, changed_other}
 
 -- the words of one field, where the words of a field become others
 abbrev chosen : Field → Field → (ℕ → ℕ) → (ℕ → ℕ) → ℕ → ℕ

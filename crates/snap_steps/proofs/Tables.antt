@@ -1,44 +1,47 @@
 -- The rule's part on tables, and what an evolving table leaves true.
-use Rattle.std.proofs.Common.{◌≡◌, ◌≢◌, ◌⊎◌, inl, inr, ℕ, zero, suc, ◌+◌, ◌<◌, ◌≤◌, ◌/◌, ◌%◌, List, [], ◌∷◌, ◌++◌, set, refl, sym, ap, ◌∙◌, subst, arith}
+use Rattle.std.proofs.Common.{inl, inr, ℕ, ◌<◌, List, [], ◌∷◌, arith, ◌≡◌, ◌∙◌, ◌≢◌, refl, ap, sym, subst, ◌%◌}
+use lib.ListN.{get_elem?}
 use mathlib.Core.Logic.{dite}
 use mathlib.Core.Option.{some}
 use native.Mathlib.Decide.{ℕ_discrete}
-use lib.ListN.{get_elem?}
+use Rattle.snap_model.specs.History.{Begins}
 use Rattle.snap_model.specs.declared.call.Entry.{Entry}
-use Rattle.snap_rule.specs.declared.reader.Reading.{Reading}
-use Rattle.snap_rule.specs.declared.reader.Reading.TheVariants.{Resting, On}
-use Rattle.snap_stamp.specs.declared.side.Side.{Side}
-use Rattle.snap_stamp.specs.declared.side.Side.TheVariants as sides
-use Rattle.snap_rule.specs.State.{State as Table, In, Beside}
-use Rattle.snap_stamp.specs.Stamps.{IsUnlinked}
-use Rattle.snap_rule.specs.Evolves.{Evolves}
-use Rattle.snap_rule.specs.WordKinds as word_kinds
-use Rattle.snap_rule.specs.Updates as updates
-use Rattle.snap_rule.specs.Rule.{TableOk, IsLive}
-use Rattle.snap_rule.specs.Views.{ReadingOk}
-use Rattle.snap_stamp.specs.Sides.{other}
-use Rattle.snap_rule.specs.Doing.{Concerns, DoingOk, Apart}
-use Rattle.snap_rule.specs.declared.change.Doing.{Doing}
-use Rattle.snap_rule.specs.declared.change.Doing.TheVariants.{Nothing, Unlinked, Shrunk, Lowered, Lifted, Turned}
 use Rattle.snap_rule.proofs.Carried.{doing_kept}
-use Rattle.snap_rule.proofs.Others.{header_apart, lock_apart, own_apart}
 use Rattle.snap_rule.proofs.Kept.{stage_kept}
+use Rattle.snap_rule.proofs.Others.{header_apart, lock_apart, own_apart}
 use Rattle.snap_rule.proofs.Present.{live_known}
 use Rattle.snap_rule.proofs.Silent.{header_evolves, lock_evolves, own_evolves}
 use Rattle.snap_rule.proofs.Table.{header_keeps, lock_keeps, own_keeps}
 use Rattle.snap_rule.proofs.Updates.{changed_same, changed_other}
+use Rattle.snap_rule.specs.Doing.{Apart, Concerns, DoingOk}
+use Rattle.snap_rule.specs.Evolves.{Evolves}
+use Rattle.snap_rule.specs.Rule.{TableOk, IsLive}
+use Rattle.snap_rule.specs.State.{In, State as Table, Beside}
+use Rattle.snap_rule.specs.Views.{ReadingOk}
+use Rattle.snap_rule.specs.declared.change.Doing.{Doing}
+use Rattle.snap_rule.specs.declared.change.Doing.TheVariants.{Nothing, Unlinked, Shrunk, Lowered, Lifted, Turned}
+use Rattle.snap_rule.specs.declared.reader.Reading.{Reading}
+use Rattle.snap_rule.specs.declared.reader.Reading.TheVariants.{Resting, On}
+use Rattle.snap_stamp.specs.Sides.{other}
+use Rattle.snap_stamp.specs.Stamps.{IsUnlinked}
 use Rattle.snap_stamp.specs.declared.layout.Field.{Field}
-use Rattle.snap_stamp.specs.declared.layout.Field.TheVariants.{Key, Birth, Stamp, Lock, Height, Left, Right, Value}
+use Rattle.snap_stamp.specs.declared.layout.Field.TheVariants.{Left, Right, Lock, Key, Birth, Stamp, Height, Value}
+use Rattle.snap_stamp.specs.declared.side.Side.{Side}
+use Rattle.snap_steps.specs.Counting.{times}
+use Rattle.snap_steps.proofs.Totals.{one_same, one_other}
+use Rattle.snap_steps.specs.Rule.Epochs.{AllAre}
 use Rattle.snap_steps.specs.declared.view.View.{View}
-use Rattle.snap_model.specs.History.{Begins}
-use Rattle.snap_steps.specs.Weights.{total, times}
-use Rattle.snap_steps.specs.Words.{Memory, Row, row, field}
+use Rattle.snap_steps.specs.Each.{Each}
+use Rattle.snap_steps.specs.Rule.History.{IsIn}
+use Rattle.snap_steps.specs.Rule.Ways.{IsOnWay}
+use Rattle.snap_steps.specs.Rule.Changes.{at_link, changing}
+use Rattle.snap_steps.specs.Memory.{row, Memory}
 use Rattle.snap_steps.specs.States.{state_of, with_word}
-use Rattle.snap_steps.specs.Views.{IsBorn, at_link, changing}
-use Rattle.snap_steps.specs.Rule.{Each, IsIn, IsOnWay, AllLinked, AllAre, AreFacts}
 use Rattle.snap_steps.proofs.Cells.{changed}
 use Rattle.snap_steps.proofs.States.{sets}
-use Rattle.snap_steps.proofs.Sums.{one_same, one_other}
+use Rattle.snap_stamp.specs.declared.side.Side.TheVariants as sides
+use Rattle.snap_rule.specs.WordKinds as word_kinds
+use Rattle.snap_rule.specs.Updates as updates
 
 pub in_times : (r : ℕ) (l : List ℕ) → In r l → 0 < times r l
 in_times r [] h = absurd h
@@ -48,10 +51,6 @@ in_times r (x ∷ xs) (inr h) = omega (arith, in_times r xs h)
 pub times_in : (r : ℕ) (l : List ℕ) → 0 < times r l → In r l
 times_in r [] h = absurd (omega arith)
 times_in r (x ∷ xs) h = dite (ℕ_discrete r x) (λ e. inl e) (λ ne. inr (times_in r xs (omega (arith, one_other r x ne))))
-
-pub all_linked_grows : (linked linked' : List ℕ) → ((r : ℕ) → In r linked → In r linked') → (l : List ℕ) → AllLinked linked l → AllLinked linked' l
-all_linked_grows linked linked' g [] h = tt
-all_linked_grows linked linked' g (x ∷ xs) h = (g x h.0, all_linked_grows linked linked' g xs h.1)
 
 pub all_are : (e x : ℕ) (l : List ℕ) → AllAre e l → 0 < times x l → x ≡ e
 all_are e x [] h l = absurd (omega arith)
@@ -91,10 +90,6 @@ none_changing (Lowered p q row e raised) holds n d h none = link_apart n row d e
 none_changing (Lifted p q row e raised) holds n d h none =
     omega (arith, link_apart n row d e (λ q. omega (arith, none, h row (inr (inl refl)), ap (λ (y : ℕ). times y holds) q)), link_apart n raised d (other e) (λ q. omega (arith, none, h raised (inr (inr refl)), ap (λ (y : ℕ). times y holds) q)))
 none_changing (Turned row) holds n d h none = refl
-
-pub none_total : (f : View → ℕ) (views : List View) → ((j : ℕ) (u : View) → get_elem? views j ≡ some u → f u ≡ 0) → total f views ≡ 0
-none_total f [] h = refl
-none_total f (x ∷ xs) h = omega (arith, h 0 x refl, none_total f xs (λ j. h (suc j)))
 
 -- the header's words on writes
 pub header_moves : (m m' : Memory) (g : Beside) (w : ℕ) → m'.rows ≡ m.rows → m'.epoch ≡ m.epoch → word_kinds.MayCount (state_of m g) m'.gate m'.left w → TableOk (state_of m g) → Moves (state_of m g) (state_of m' (record g { writers = w })) Anywhere

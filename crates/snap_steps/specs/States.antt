@@ -1,12 +1,12 @@
--- A table's state from its memory and what the rule says beside it.
-use Rattle.std.specs.Prelude.{◌≡◌, ℕ, ◌+◌, ◌<◌, List, length, set}
-use Rattle.snap_stamp.specs.declared.layout.Field.{Field}
-use Rattle.snap_stamp.specs.declared.layout.Field.TheVariants.{Key, Birth, Stamp, Lock, Height, Left, Right, Value}
-use Rattle.snap_steps.specs.Words.{Memory, Row, row, field, with_field}
-use Rattle.snap_stamp.specs.declared.side.Side.{Side}
-use Rattle.snap_stamp.specs.declared.side.Side.TheVariants as sides
-use Rattle.snap_rule.specs.Updates.{changed, relink}
+-- The state of a table: its memory, and what the rule says beside it.
+use Rattle.std.specs.Prelude.{ℕ}
 use Rattle.snap_rule.specs.State.{State, Beside}
+use Rattle.snap_rule.specs.Updates.{changed, relink}
+use Rattle.snap_stamp.specs.declared.layout.Field.{Field}
+use Rattle.snap_stamp.specs.declared.layout.Field.TheVariants.{Left, Right, Key, Birth, Stamp, Lock, Height, Value}
+use Rattle.snap_stamp.specs.declared.side.Side.{Side}
+use Rattle.snap_steps.specs.Memory.{Memory, row, field}
+use Rattle.snap_stamp.specs.declared.side.Side.TheVariants as sides
 
 -- the field of a link
 abbrev pub link_field : Side → Field

@@ -1,11 +1,14 @@
 // The steps on the words of a row.
 ghost use Rattle.std.specs.Prelude.{◌≡◌, ◌⊎◌, ◌≢◌, ℕ, ◌+◌, ◌*◌, ◌<◌, ◌≤◌, Bool, true, false, [], ◌∷◌, ◌++◌, IsTrue, MatchBool, Some, None};
-ghost use Rattle.snap_steps.specs.Weights.{times};
+ghost use Rattle.snap_steps.specs.Counting.{times};
 ghost use Rattle.snap_stamp.specs.Layout.{place_of, word_at};
 ghost use Rattle.snap_rule.specs.Tree.{value_of};
 ghost use Rattle.snap_steps.specs.Seen.{IsOf, Becomes};
-ghost use Rattle.snap_steps.specs.Tells.{Enters};
-ghost use Rattle.snap_steps.specs.Views.{own_stored, missed, read, locked, unlocked, stored, counted_one, call_of, entry, made_entry, hung, IsBorn, IsLeaf, IsPlace, IsKnown};
+ghost use Rattle.snap_steps.specs.Histories.{Enters};
+ghost use Rattle.snap_steps.specs.Steps.Fields.{own_stored, read};
+ghost use Rattle.snap_steps.specs.Steps.Locks.{missed, locked, unlocked};
+ghost use Rattle.snap_steps.specs.Steps.Writes.{stored, counted_one, call_of, entry, made_entry, hung, IsLeaf, IsPlace};
+ghost use Rattle.snap_steps.specs.Facts.{IsBorn, IsKnown};
 ghost use Rattle.snap_model.specs.declared.call.Call.TheVariants.{Put, Remove};
 ghost use Rattle.snap_rule.specs.declared.change.Doing.TheVariants.{Nothing};
 ghost use Rattle.snap_stamp.specs.declared.layout.Field.TheVariants.{Key, Lock, Stamp, Value};

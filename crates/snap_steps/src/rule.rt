@@ -5,8 +5,16 @@ ghost use Rattle.snap_stamp.specs.declared.layout.Field.TheVariants.{Key};
 ghost use Rattle.snap_stamp.specs.declared.side.Side.{Side};
 ghost use Rattle.snap_stamp.specs.declared.side.Side.TheVariants.{Right};
 ghost use Rattle.snap_steps.specs.Rule.{Kept};
-ghost use Rattle.snap_steps.specs.Views.{opener, issued, next_pass, note_of, learned, took, gone};
-ghost use Rattle.snap_steps.specs.Tells.{next_loaded, drawing_tried, gate_loaded, epoch_loaded, left_loaded, entering_tried, closing_tried, ended, done_loaded, made_sure, word_loaded, locking_tried, lock_freed, done_counted, value_stored, absent_confirmed, way_begun, next_read, answer_read, leaf_hung, stored_own, cut_told, shrinking_stored};
+ghost use Rattle.snap_steps.specs.Roles.{opener, gone};
+ghost use Rattle.snap_steps.specs.Steps.Seats.{issued, next_pass, note_of, learned, took, made_sure};
+ghost use Rattle.snap_steps.specs.Steps.Header.{next_loaded, gate_loaded, epoch_loaded, left_loaded, done_loaded};
+ghost use Rattle.snap_steps.specs.Steps.Draws.{drawing_tried};
+ghost use Rattle.snap_steps.specs.Steps.Gate.{entering_tried, closing_tried, ended, cut_told};
+ghost use Rattle.snap_steps.specs.Steps.Fields.{word_loaded, stored_own};
+ghost use Rattle.snap_steps.specs.Steps.Locks.{locking_tried, lock_freed};
+ghost use Rattle.snap_steps.specs.Steps.Writes.{done_counted, value_stored, absent_confirmed, leaf_hung};
+ghost use Rattle.snap_steps.specs.Steps.Way.{way_begun, next_read, answer_read};
+ghost use Rattle.snap_steps.specs.Steps.Changes.{shrinking_stored};
 
 use crate::view::View;
 use atomic_table::{Join, Play, Split, TableRule};

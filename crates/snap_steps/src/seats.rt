@@ -2,8 +2,10 @@
 ghost use Rattle.std.specs.Prelude.{◌≡◌, ◌≤◌, ◌++◌, ◌∷◌, length};
 ghost use Rattle.snap_model.specs.History.{Begins};
 ghost use Rattle.snap_steps.specs.Seen.{IsOf, Becomes};
-ghost use Rattle.snap_steps.specs.Tells.{Extends};
-ghost use Rattle.snap_steps.specs.Views.{noted, saw, note_of, admitted_of};
+ghost use Rattle.snap_steps.specs.Histories.{Extends};
+ghost use Rattle.snap_steps.specs.Steps.Header.{noted, saw};
+ghost use Rattle.snap_steps.specs.Steps.Seats.{note_of};
+ghost use Rattle.snap_steps.specs.Numbers.{admitted_of};
 ghost use Rattle.snap_steps.specs.declared.view.HeaderNote.TheVariants.{Done};
 ghost use Rattle.snap_rule.specs.declared.reader.Reading.TheVariants.{Resting};
 ghost use Rattle.snap_steps.specs.declared.view.Stage.TheVariants.{Idle};

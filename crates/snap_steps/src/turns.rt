@@ -2,7 +2,8 @@
 ghost use Rattle.std.specs.Prelude.{◌≡◌, ◌+◌, ◌%◌, ◌≤◌, ◌<◌, ◌^◌};
 ghost use Rattle.snap_rule.specs.declared.change.Doing.TheVariants.{Nothing};
 ghost use Rattle.snap_steps.specs.Seen.{IsOf, Becomes};
-ghost use Rattle.snap_steps.specs.Views.{IsTurn, IsKnown, shrunk};
+ghost use Rattle.snap_steps.specs.Steps.Changes.{IsTurn, shrunk};
+ghost use Rattle.snap_steps.specs.Facts.{IsKnown};
 ghost use Rattle.snap_stamp.specs.declared.layout.Field.TheVariants.{Stamp};
 
 use crate::fields::index_of;

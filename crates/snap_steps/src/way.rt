@@ -1,8 +1,9 @@
 // The steps of a reader on its way to a key.
 ghost use Rattle.std.specs.Prelude.{◌≡◌, ℕ, ◌≤◌, length};
 ghost use Rattle.snap_steps.specs.Seen.{IsOf, Becomes};
-ghost use Rattle.snap_steps.specs.Tells.{Extends};
-ghost use Rattle.snap_steps.specs.Views.{noted, set_out_for, read_on, IsNext, IsLast, HasBound, HasAnswer, settled_at};
+ghost use Rattle.snap_steps.specs.Histories.{Extends};
+ghost use Rattle.snap_steps.specs.Steps.Header.{noted};
+ghost use Rattle.snap_steps.specs.Steps.Way.{set_out_for, read_on, IsNext, IsLast, HasBound, HasAnswer, settled_at};
 ghost use Rattle.snap_steps.specs.declared.view.HeaderNote.TheVariants.{Done};
 ghost use Rattle.snap_rule.specs.declared.reader.Point.{Point};
 ghost use Rattle.snap_rule.specs.declared.reader.Reading.TheVariants.{On};

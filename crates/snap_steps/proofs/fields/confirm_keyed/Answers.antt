@@ -1,12 +1,12 @@
 use Rattle.std.proofs.Common.{rules, sym, subst, ℕ, ◌<◌, ◌≤◌}
 use mathlib.Core.Option.{none}
 use Rattle.atomic_table.specs.Table.{step, Allows}
-use Rattle.snap_steps.specs.Tells.{absent_confirmed}
-use Rattle.snap_steps.specs.Views.{IsKnown}
+use Rattle.snap_steps.specs.Steps.Writes.{absent_confirmed}
+use Rattle.snap_steps.specs.Facts.{IsKnown}
 use Rattle.snap_stamp.specs.declared.layout.Field.TheVariants.{Key, Value}
-use Rattle.snap_steps.proofs.Keeps.{Rule}
+use Rattle.snap_steps.proofs.Classes.Turning.{Rule}
 use Rattle.snap_steps.proofs.Cells.{word_within}
-use Rattle.snap_steps.proofs.Entries.{confirms}
+use Rattle.snap_steps.proofs.Keeps.Writes.{confirms}
 use Rattle.snap_steps.proofs.fields.confirm_keyed.Goals as goal
 
 pub load-requires : goal.load-requires

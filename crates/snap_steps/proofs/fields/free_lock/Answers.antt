@@ -1,13 +1,12 @@
 use Rattle.std.proofs.Common.{rules, refl, sym, subst, ℕ, ◌<◌, ◌≤◌}
 use mathlib.Core.Option.{none}
 use Rattle.atomic_table.specs.Table.{step, Allows}
-use Rattle.snap_steps.proofs.Keeps.{Rule}
-use Rattle.snap_steps.specs.Views.{unlocked}
+use Rattle.snap_steps.proofs.Classes.Turning.{Rule}
+use Rattle.snap_steps.specs.Steps.Locks.{unlocked, lock_freed}
 use Rattle.snap_steps.proofs.Passing.{stays_pass}
 use Rattle.snap_steps.proofs.Cells.{word_within}
 use Rattle.snap_stamp.specs.declared.layout.Field.TheVariants.{Lock}
-use Rattle.snap_steps.specs.Tells.{lock_freed}
-use Rattle.snap_steps.proofs.RowKeeps.{frees}
+use Rattle.snap_steps.proofs.Keeps.Locks.{frees}
 use Rattle.snap_steps.proofs.fields.free_lock.Goals as goal
 
 pub store-requires : goal.store-requires

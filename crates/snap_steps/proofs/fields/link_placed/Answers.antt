@@ -2,12 +2,11 @@ use Rattle.std.proofs.Common.{rules, sym, subst, ◌∙◌, ◌≡◌, ◌^◌, 
 use mathlib.Core.Option.{none}
 use Rattle.atomic_table.specs.Table.{step, Allows}
 use Rattle.snap_stamp.specs.Layout.{word_at}
-use Rattle.snap_steps.specs.Views.{IsLeaf, IsPlace}
-use Rattle.snap_steps.specs.Tells.{leaf_hung}
+use Rattle.snap_steps.specs.Steps.Writes.{IsLeaf, IsPlace, leaf_hung}
 use Rattle.snap_stamp.specs.declared.layout.Field.{Field}
-use Rattle.snap_steps.proofs.Keeps.{Rule}
+use Rattle.snap_steps.proofs.Classes.Turning.{Rule}
 use Rattle.snap_steps.proofs.Cells.{word_within}
-use Rattle.snap_steps.proofs.Leaves.{links_leaf}
+use Rattle.snap_steps.proofs.Keeps.Leaf.{links_leaf}
 use Rattle.snap_steps.proofs.fields.link_placed.Goals as goal
 
 pub store-requires : goal.store-requires

@@ -2,10 +2,10 @@ use Rattle.std.proofs.Common.{rules, sym, subst, ◌∙◌, ℕ, ◌<◌, ◌≤
 use mathlib.Core.Option.{none}
 use Rattle.atomic_table.specs.Table.{step, Allows}
 use Rattle.snap_stamp.specs.Layout.{word_at}
-use Rattle.snap_steps.specs.Tells.{stored_own}
-use Rattle.snap_steps.proofs.Keeps.{Rule}
+use Rattle.snap_steps.specs.Steps.Fields.{stored_own}
+use Rattle.snap_steps.proofs.Classes.Turning.{Rule}
 use Rattle.snap_steps.proofs.Cells.{word_within}
-use Rattle.snap_steps.proofs.RowKeeps.{stores_own}
+use Rattle.snap_steps.proofs.Keeps.Fields.{stores_own}
 use Rattle.snap_steps.proofs.fields.store_placed.Goals as goal
 
 pub store-requires : goal.store-requires

@@ -1,16 +1,17 @@
 use Rattle.std.proofs.Common.{rules, sym, subst, ℕ, ◌<◌, ◌≤◌, ◌≡◌, refl}
 use mathlib.Core.Option.{none}
 use Rattle.atomic_table.specs.Table.{step, Allows}
-use Rattle.snap_steps.proofs.Keeps.{Rule}
+use Rattle.snap_steps.proofs.Classes.Turning.{Rule}
 use Rattle.snap_rule.specs.Tree.{value_of}
 use Rattle.snap_steps.specs.Seen.{Known, Becomes}
-use Rattle.snap_steps.specs.Tells.{Enters, value_stored}
-use Rattle.snap_steps.specs.Views.{stored, call_of, entry, IsKnown}
+use Rattle.snap_steps.specs.Histories.{Enters}
+use Rattle.snap_steps.specs.Steps.Writes.{value_stored, stored, call_of, entry}
+use Rattle.snap_steps.specs.Facts.{IsKnown}
 use Rattle.snap_steps.specs.declared.view.View.{View}
 use Rattle.snap_stamp.specs.declared.layout.Field.TheVariants.{Key, Value}
 use Rattle.snap_steps.proofs.Passing.{stays_pass, becomes}
 use Rattle.snap_steps.proofs.Cells.{word_within}
-use Rattle.snap_steps.proofs.Entries.{stores}
+use Rattle.snap_steps.proofs.Keeps.Writes.{stores}
 use Rattle.snap_steps.proofs.fields.store_value.Goals as goal
 
 pub swap-requires : goal.swap-requires

@@ -2,14 +2,13 @@ use Rattle.std.proofs.Common.{rules, sym, subst, ap, ℕ, ◌+◌, ◌<◌, ◌�
 use mathlib.Core.Option.{none}
 use prog.Atomic.{either}
 use Rattle.atomic_table.specs.Table.{step, Allows}
-use Rattle.snap_steps.proofs.Keeps.{Rule}
-use Rattle.snap_steps.specs.Views.{locked, missed}
+use Rattle.snap_steps.proofs.Classes.Turning.{Rule}
+use Rattle.snap_steps.specs.Steps.Locks.{locked, missed, locking_tried}
 use Rattle.snap_steps.specs.declared.view.View.{View}
 use Rattle.snap_steps.proofs.Passing.{stays_pass, becomes}
 use Rattle.snap_steps.proofs.Cells.{word_within}
 use Rattle.snap_stamp.specs.declared.layout.Field.TheVariants.{Lock}
-use Rattle.snap_steps.specs.Tells.{locking_tried}
-use Rattle.snap_steps.proofs.RowKeeps.{locks}
+use Rattle.snap_steps.proofs.Keeps.Locks.{locks}
 use Rattle.snap_steps.proofs.fields.try_lock.Goals as goal
 use Rattle.snap_steps.proofs.fields.try_lock.Goals.{then-found-eq0, else-found-eq0}
 

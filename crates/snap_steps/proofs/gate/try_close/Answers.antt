@@ -1,6 +1,6 @@
 use Rattle.std.proofs.Common.{rules, ◌+◌}
 use mathlib.Core.Option.{none}
-use Rattle.snap_steps.proofs.Keeps.{closes}
+use Rattle.snap_steps.proofs.Keeps.Gate.{closes}
 use Rattle.snap_steps.proofs.gate.try_close.Goals as goal
 
 pub compare_exchange-was-requires : goal.compare_exchange-was-requires

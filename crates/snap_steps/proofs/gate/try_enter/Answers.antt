@@ -1,6 +1,6 @@
 use Rattle.std.proofs.Common.{rules, ◌+◌, ◌%◌, ◌^◌}
 use mathlib.Core.Option.{none}
-use Rattle.snap_steps.proofs.Keeps.{enters}
+use Rattle.snap_steps.proofs.Keeps.Gate.{enters}
 use Rattle.snap_steps.proofs.gate.try_enter.Goals as goal
 
 pub compare_exchange-was-requires : goal.compare_exchange-was-requires

@@ -2,11 +2,11 @@ use Rattle.std.proofs.Common.{rules, sym, subst, ap, ◌∙◌, ◌≡◌, ◌+�
 use mathlib.Core.Option.{none}
 use Rattle.atomic_table.specs.Table.{step, Allows}
 use Rattle.snap_stamp.specs.Layout.{word_at}
-use Rattle.snap_steps.specs.Tells.{shrinking_stored}
+use Rattle.snap_steps.specs.Steps.Changes.{shrinking_stored}
 use Rattle.snap_stamp.specs.declared.layout.Field.TheVariants.{Stamp}
-use Rattle.snap_steps.proofs.Keeps.{Rule}
+use Rattle.snap_steps.proofs.Classes.Turning.{Rule}
 use Rattle.snap_steps.proofs.Cells.{word_within}
-use Rattle.snap_steps.proofs.Changing.{shrinks}
+use Rattle.snap_steps.proofs.Keeps.Changes.{shrinks}
 use Rattle.snap_steps.proofs.turns.shrink_placed.Goals as goal
 
 pub store-requires : goal.store-requires

@@ -1,0 +1,36 @@
+-- Seats that are cut in two and joined.
+use Rattle.std.specs.Prelude.{◌+◌, [], ◌∷◌, ◌++◌, ◌≡◌, ℕ}
+use Rattle.atomic_table.specs.Table.{Step}
+use Rattle.snap_model.specs.History.{IsLegal, calls_of}
+use Rattle.snap_rule.specs.declared.reader.Reading.TheVariants.{Resting}
+use Rattle.snap_steps.specs.declared.view.View.{View}
+use Rattle.snap_steps.specs.Roles.{newcomer, blank}
+use Rattle.snap_steps.specs.declared.view.Role.TheVariants.{Noting}
+use Rattle.snap_steps.specs.Histories.{longer}
+use Rattle.snap_steps.specs.Numbers.{admitted_of}
+use Rattle.snap_steps.specs.Rule.History.{AllBegin}
+use Rattle.snap_steps.specs.Steps.Told.{Sat, Has}
+
+abbrev pub issued : View → View
+issued v = record v { who = v.who + 1 }
+
+abbrev pub next_pass : View → View
+next_pass v = newcomer v.rows v.passes v.who
+
+-- what a note keeps of a pass
+abbrev pub note_of : View → View
+note_of v = record (blank v.rows v.passes Noting 0) { seen = v.seen }
+
+-- after a join: the longer history, and both are kept
+abbrev pub learned : View → View → View
+learned v w = record v { reads = Resting; seen = longer v.seen w.seen; joined = v.seen ∷ w.seen ∷ [] }
+
+abbrev pub took : View → View → View
+took v w = record v { reads = Resting; seen = longer v.seen w.seen; joined = v.seen ∷ w.seen ∷ []; admitted = v.admitted ++ admitted_of w ∷ w.admitted }
+
+-- the two histories of the join are let go
+abbrev pub sure : View → View
+sure v = record v { joined = [] }
+
+abbrev pub made_sure : Step (Unit {0}) → Sat → ℕ → Sat → Type 0
+made_sure st m r n = Has m n (sure m.0) × AllBegin m.0.joined m.0.seen × IsLegal m.0.seen × (calls_of m.0.seen m.0.who ≡ m.0.mine)
