@@ -8,3 +8,4 @@ pub mod Uses
 pub mod Locks
 pub mod Epochs
 pub mod Apart
+pub mod Worn

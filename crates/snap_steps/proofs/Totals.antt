@@ -53,8 +53,6 @@ removed_other r s (x ∷ xs) ne = go (eqb x r) refl (removed_other r s xs ne)
     go true e t = let n : s ≢ x = grind (arith, nat_tests) in omega (arith, one_other s x n, t)
     go false e t = omega (arith, t)
 
-
-
 pub at_near : {A : Type 0} (l : List A) (i : ℕ) (a : A) → get_elem? l i ≡ some a → i < length l
 at_near [] i a e = absurd (some-ne-none a (sym e))
 at_near (x ∷ xs) zero a e = omega arith

@@ -37,7 +37,7 @@ AreFacts rows holds (x ∷ xs) = (field x.field (row rows x.row) ≡ x.word) × 
 pub record IsBorn (v : View) (r : ℕ) : Type 0 where
   pub birth : ℕ
   pub is_birth : IsKnown v.knows r Birth birth
-  pub now : 0 < times birth v.epochs
+  pub now : 0 < times birth v.present
   pub stamp : ℕ
   pub is_stamp : IsKnown v.knows r Stamp stamp
   pub unmarked : stamp % 2 ≡ 0

@@ -1,5 +1,5 @@
--- The numbers for which a view speaks, and how often they entered or closed.
-use Rattle.std.specs.Prelude.{ℕ, List, [], ◌∷◌, ◌+◌, ◌++◌}
+-- The numbers for which a view speaks, and how often these entered, closed and cut.
+use Rattle.std.specs.Prelude.{ℕ, List, [], ◌∷◌, ◌+◌, ◌++◌, length}
 use Rattle.snap_steps.specs.declared.view.Admitted.{Admitted}
 use Rattle.snap_steps.specs.declared.view.View.{View}
 use Rattle.snap_steps.specs.Roles.{own_number}
@@ -14,7 +14,10 @@ abbrev pub numbers : View → List ℕ
 numbers v = own_number v.role v.who ++ numbers_of v.admitted
 
 abbrev pub admitted_of : View → Admitted
-admitted_of w = record { who = w.who; mine = w.mine; uses = w.uses }
+admitted_of w = record { who = w.who; mine = w.mine; cuts = w.cuts; uses = w.uses }
 
 abbrev pub all_uses : View → ℕ
 all_uses v = v.uses + total (λ (a : Admitted). a.uses) v.admitted
+
+abbrev pub all_cuts : View → ℕ
+all_cuts v = length v.cuts + total (λ (a : Admitted). length a.cuts) v.admitted

@@ -1,5 +1,5 @@
 -- What a seat is, and the views that seats begin and end with.
-use Rattle.std.specs.Prelude.{ℕ, List, [], ◌∷◌}
+use Rattle.std.specs.Prelude.{ℕ, List, [], ◌∷◌, false}
 use Rattle.snap_rule.specs.declared.change.Doing.TheVariants.{Nothing}
 use Rattle.snap_rule.specs.declared.reader.Reading.TheVariants.{Resting}
 use Rattle.snap_steps.specs.declared.view.Role.{Role}
@@ -32,7 +32,7 @@ own_number Noting who = []
 own_number Spent who = []
 
 abbrev pub blank : ℕ → ℕ → Role → ℕ → View
-blank rows passes role who = record { rows = rows; passes = passes; who = who; role = role; stage = Idle; seen = []; mine = []; notes = []; drawn = []; uses = 0; admitted = []; holds = []; knows = []; reached = []; own = []; wrote = []; reads = Resting; doing = Nothing; epochs = []; steps = 0; joined = [] }
+blank rows passes role who = record { rows = rows; passes = passes; who = who; role = role; stage = Idle; seen = []; mine = []; notes = []; handed = 0; epochs = 0; worn = false; drawn = []; cuts = []; uses = 0; admitted = []; holds = []; knows = []; reached = []; own = []; wrote = []; reads = Resting; doing = Nothing; present = []; steps = 0; joined = [] }
 
 abbrev pub opener : ℕ → ℕ → ℕ → View
 opener rows passes who = blank rows passes Opening who

@@ -12,6 +12,7 @@ pub mod Changes
 pub mod Epochs
 pub mod Ways
 pub mod Apart
+pub mod Worn
 use Rattle.std.specs.Prelude.{◌≡◌, ℕ, List, length}
 use Rattle.snap_rule.specs.Doing.{DoingOk}
 use Rattle.snap_rule.specs.Rule.{TableOk}
@@ -26,11 +27,11 @@ use Rattle.snap_steps.specs.Stages.{in_write}
 use Rattle.snap_steps.specs.declared.view.View.{View}
 use Rattle.snap_steps.specs.declared.rule.About.{About}
 use Rattle.snap_steps.specs.Each.{Each}
-use Rattle.snap_steps.specs.Rule.Notes.{AreTrueNotes}
+use Rattle.snap_steps.specs.Rule.Notes.{KnowsHeader}
 use Rattle.snap_steps.specs.Rule.Words.{IsMemory, KnowsAbout}
 use Rattle.snap_steps.specs.Rule.Drawn.{AreDrawn}
 use Rattle.snap_steps.specs.Rule.Gate.{IsGated}
-use Rattle.snap_steps.specs.Rule.Names.{AreNamed}
+use Rattle.snap_steps.specs.Rule.Names.{AreNamed, ActsAsPass}
 use Rattle.snap_steps.specs.Rule.Uses.{AreUsed}
 use Rattle.snap_steps.specs.Rule.History.{IsHistory}
 use Rattle.snap_steps.specs.Rule.Locks.{AreLocked, KnowsRows}
@@ -38,6 +39,8 @@ use Rattle.snap_steps.specs.Rule.Ways.{AllLinked, IsOnWay}
 use Rattle.snap_steps.specs.Rule.Counts.{AreCounted}
 use Rattle.snap_steps.specs.Rule.Apart.{AreApart}
 use Rattle.snap_steps.specs.Rule.Epochs.{KnowsEpoch}
+use Rattle.snap_steps.specs.Rule.Worn.{KnowsWorn}
+use Rattle.snap_steps.specs.Numbers.{all_cuts}
 
 pub record Kept (about : About) (words : List ℕ) (views : List View) : Type 0 where
   pub m : Memory
@@ -48,9 +51,11 @@ pub record Kept (about : About) (words : List ℕ) (views : List View) : Type 0 
   pub history : IsHistory g.history views
   pub counted : AreCounted m.done m.left (length g.history) views
   pub drawn : AreDrawn m.next views
-  pub notes : Each (λ v. AreTrueNotes m.next m.epoch v.notes) views
+  pub acting : Each ActsAsPass views
+  pub notes : Each (KnowsHeader m.next m.epoch) views
   pub gated : IsGated m.gate m.left views
   pub used : AreUsed m.gate m.epoch views
+  pub cut : m.epoch ≡ total all_cuts views
   pub locked : AreLocked m.rows views
   pub known : Each (KnowsRows m.rows) views
   -- the tree, the links, sharing, changes in progress
@@ -60,7 +65,8 @@ pub record Kept (about : About) (words : List ℕ) (views : List View) : Type 0 
   pub changes : (n : ℕ) (d : Side) → total (λ v. changing n d v.doing) views ≡ 0 → g.pending n d ≡ plain
   pub doing : Each (λ v. DoingOk (state_of m g) v.doing) views
   pub held : Each HoldsIts views
-  pub epochs : Each (KnowsEpoch m.epoch) views
+  pub present : Each (KnowsEpoch m.epoch) views
   pub reached : Each (λ v. AllLinked g.linked v.reached) views
   pub ways : Each (IsOnWay (state_of m g)) views
   pub apart : AreApart m.next m.rows g.linked views
+  pub worn : Each (KnowsWorn (state_of m g)) views

@@ -1,25 +1,33 @@
-// One call for each kind of atomic step over one table of words. Each keeps the rule of `specs/Rule.antt`.
+//! One public call for each kind of atomic step on the words of a table, and the rule that every step keeps.
+//!
+//! A table's words lie in one `atomic_table`: a header and rows. Each pass has a seat there, and no other crate
+//! touches a word but by the calls of this one. `specs/Rule.antt` has the rule, `specs/Steps` what each kind of
+//! step asks, tells and makes of what its pass knows.
 #![tactic(auto)]
 
+mod changes;
+mod draws;
 mod fields;
 mod gate;
+mod header;
+mod locks;
 mod pass;
 mod rows;
 mod rule;
 mod seats;
-mod turns;
 mod view;
 mod way;
+mod writes;
 
-pub use fields::{
-    confirm_absent, count_done, free_lock, link_leaf, load_word, store_own, store_value, try_lock,
-};
-pub use gate::{
-    count_left, cut, load_epoch, load_gate, load_left, open_gate, try_close, try_enter,
-};
+pub use changes::mark_shrinking;
+pub use draws::{Full, draw, try_draw};
+pub use fields::{load_key, load_word, store_key, store_own};
+pub use gate::{count_left, cut, open_gate, try_close, try_enter};
+pub use header::{load_done, load_epoch, load_gate, load_left, load_next};
+pub use locks::{free_lock, try_lock};
 pub use pass::{Note, Pass, Receipt};
-pub use rows::{Full, Rows, draw, load_next, try_draw};
-pub use seats::{admit, finish, learn, load_done, note};
-pub use turns::shrink;
+pub use rows::Rows;
+pub use seats::{admit, finish, learn, note};
 pub use view::{Admitted, Fact, HeaderNote, Role, Stage, View};
 pub use way::{load_last_word, load_next_word, set_out};
+pub use writes::{confirm_absent, count_done, link_leaf, store_value};

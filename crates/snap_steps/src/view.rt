@@ -1,11 +1,12 @@
-// What a seat knows. It is plain data, and no value of it is made.
+//! What a seat knows of its table: plain data for clauses and proofs, of which no value is made.
 use snap_model::Entry;
 use snap_rule::{Doing, Reading};
 use snap_stamp::Field;
 use std::collections::LinkedList;
 
+/// A word of the header, as a pass loaded it.
 pub enum HeaderNote {
-    Next(u64),
+    Next(u32),
     Gate(u64),
     Left(u64),
     Done(u64),
@@ -14,19 +15,25 @@ pub enum HeaderNote {
 
 /// What is kept of a number that was admitted.
 pub struct Admitted {
-    pub who: u64,
+    pub who: u32,
     pub mine: LinkedList<Entry>,
+    pub cuts: LinkedList<u64>,
     pub uses: u64,
 }
 
+/// What a seat is.
 pub enum Role {
-    /// Hands out the passes, and `who` is the number of the next one.
+    /// It hands out the passes, and is none itself. Its `who` is the number of the next one.
     Opening,
+    /// A pass, or the receipt of one.
     Passing,
+    /// A note.
     Noting,
+    /// It was joined to another seat, and is tied to the table no longer.
     Spent,
 }
 
+/// What a pass is doing at the gate.
 pub enum Stage {
     Idle,
     /// Whether the entry of this write is made, and whether it is counted.
@@ -35,41 +42,54 @@ pub enum Stage {
     Closing { gate: u64, quiet: bool, cut: bool },
 }
 
-/// A word of a held row, as it was last loaded or stored since the row was locked.
+/// A word of a row, as the pass last loaded or stored it while the row was its own or held.
 pub struct Fact {
-    pub row: u64,
+    pub row: u32,
     pub field: Field,
     pub word: u64,
 }
 
+/// What a seat knows.
 pub struct View {
-    pub rows: u64,
-    pub passes: u64,
-    pub who: u64,
+    /// The size of the table, and how many passes it has.
+    pub rows: u32,
+    pub passes: u32,
+    pub who: u32,
     pub role: Role,
     pub stage: Stage,
+    /// What it has seen of the history, and its own entries in it.
     pub seen: LinkedList<Entry>,
     pub mine: LinkedList<Entry>,
+    /// The header words that it loaded, in their order.
     pub notes: LinkedList<HeaderNote>,
-    pub drawn: LinkedList<u64>,
+    /// The greatest `Next` and the greatest `Epoch` that it, or a seat that was joined to it, noted.
+    pub handed: u32,
+    pub epochs: u64,
+    /// Whether one of these noted a stamp at its greatest count.
+    pub worn: bool,
+    /// The rows that it drew.
+    pub drawn: LinkedList<u32>,
+    /// The lengths of the history at which it made clones.
+    pub cuts: LinkedList<u64>,
+    /// How many writes it entered and closings it made.
     pub uses: u64,
     pub admitted: LinkedList<Admitted>,
-    /// The rows whose locks the pass holds.
-    pub holds: LinkedList<u64>,
+    /// The rows whose locks it holds, and what it knows of their words.
+    pub holds: LinkedList<u32>,
     pub knows: LinkedList<Fact>,
-    /// Rows that were linked, to which the pass came.
-    pub reached: LinkedList<u64>,
-    /// Rows that the pass drew and that aren't linked, and what it stored in them.
-    pub own: LinkedList<u64>,
+    /// Rows that were linked, to which it came.
+    pub reached: LinkedList<u32>,
+    /// Rows that it drew and that aren't linked, and what it stored in them.
+    pub own: LinkedList<u32>,
     pub wrote: LinkedList<Fact>,
-    /// Where the pass is on the way to a key.
+    /// Where it is on the way to a key.
     pub reads: Reading,
-    /// The change that the pass is in.
+    /// The change that it is in.
     pub doing: Doing,
-    /// What the pass loaded as the epoch in this write.
-    pub epochs: LinkedList<u64>,
-    /// How many steps that may leave nothing else behind the pass made.
+    /// What it loaded as the epoch in this write.
+    pub present: LinkedList<u64>,
+    /// How many steps it made that may leave nothing else behind.
     pub steps: u64,
-    /// The two histories that the last join put together.
+    /// The two histories that its last join put together.
     pub joined: LinkedList<LinkedList<Entry>>,
 }

@@ -1,5 +1,5 @@
 -- A seat more: a note, or a pass that is handed out; and the table at its start.
-use Rattle.std.proofs.Common.{◌≡◌, ℕ, ◌+◌, List, [], ◌∷◌, ◌++◌, refl, arith, zero, suc, ◌*◌, replicate, ap, ◌∙◌, ◌≤◌, sym, subst, ◌<◌, ◌≢◌, length, set, ⊎_elim}
+use Rattle.std.proofs.Common.{◌≡◌, ℕ, ◌+◌, List, [], ◌∷◌, ◌++◌, refl, arith, zero, suc, ◌*◌, replicate, ap, ◌∙◌, ◌≤◌, sym, subst, ◌<◌, ◌≢◌, length, set, ⊎_elim, false, true, ◌⊎◌}
 use Rattle.std.proofs.lemmas.List.{length-replicate}
 use lib.ListN.{get_elem?}
 use mathlib.Core.Logic.{dite}
@@ -19,10 +19,10 @@ use Rattle.snap_stamp.specs.declared.layout.Field.TheVariants.{Key, Birth, Stamp
 use Rattle.snap_steps.specs.Counting.{times, total, one_if}
 use Rattle.snap_steps.specs.Rule.Changes.{changing, HoldsIts}
 use Rattle.snap_steps.specs.Steps.Seats.{note_of, issued, next_pass}
-use Rattle.snap_steps.specs.Numbers.{all_uses, numbers_of, numbers}
+use Rattle.snap_steps.specs.Numbers.{all_uses, numbers_of, numbers, all_cuts}
 use Rattle.snap_steps.specs.Stages.{in_write, is_closing, is_quiet, may_cut, owes_count, has_counted}
 use Rattle.snap_steps.specs.Roles.{is_live, is_opening, opener, own_number, is_counted}
-use Rattle.snap_steps.specs.Rule.Names.{names}
+use Rattle.snap_steps.specs.Rule.Names.{names, ActsAsPass}
 use Rattle.snap_steps.specs.Rule.History.{whole, IsIn, IsTrueOf}
 use Rattle.snap_steps.specs.Rule.{Kept}
 use Rattle.snap_steps.specs.declared.view.View.{View}
@@ -32,7 +32,7 @@ use Rattle.snap_steps.proofs.EachView.{each_more, total_more, each_one, each_spl
 use Rattle.snap_steps.specs.Memory.{empty_row, words_of_rows, row, field, Row, Memory}
 use Rattle.snap_steps.specs.States.{state_of, state_with}
 use Rattle.snap_steps.specs.Rule.Apart.{IsOwn, KnowsOwn}
-use Rattle.snap_steps.specs.Rule.Notes.{AreTrueNotes}
+use Rattle.snap_steps.specs.Rule.Notes.{AreTrueNotes, KnowsHeader}
 use Rattle.snap_steps.specs.Rule.Gate.{IsAt}
 use Rattle.snap_steps.specs.Rule.Uses.{HasFewUses}
 use Rattle.snap_steps.specs.Rule.Locks.{OwnsLocks, KnowsRows, is_taken}
@@ -42,6 +42,7 @@ use Rattle.snap_steps.specs.Rule.Words.{KnowsAbout}
 use Rattle.snap_steps.specs.declared.view.Stage.TheVariants.{Idle}
 use Rattle.snap_steps.proofs.Totals.{total-set, terms_le, one_same, one_other}
 use Rattle.snap_steps.proofs.Classes.Turning.{Rule}
+use Rattle.snap_steps.specs.Rule.Worn.{KnowsWorn}
 
 -- a note is one seat more, which counts nowhere
 pub noted_more : (about : About) (words : List ℕ) (views : List View) (k : Kept about words views) (id : ℕ) (v : View) → get_elem? views id ≡ some v → is_live v.role ≡ 1 → Kept about words (views ++ note_of v ∷ [])
@@ -69,7 +70,7 @@ noted_more about words views k id v at live = let u : View = note_of v in record
     none_later = λ r l. omega (arith, total_more (λ x. times r x.drawn) views u, k.drawn.none_later r l);
     none_zero = omega (arith, total_more (λ x. times 0 x.drawn) views u, k.drawn.none_zero);
   };
-  notes = each_more views u k.notes (λ x p. p) tt;
+  notes = each_more views u k.notes (λ x p. p) record { notes_are = tt; handed_is = (k.notes id v at).handed_is; epochs_are = (k.notes id v at).epochs_are };
   gated = record {
     half = omega (arith, k.gated.half, total_more (λ x. in_write x.stage) views u, total_more (λ x. is_closing x.stage) views u);
     one = omega (arith, k.gated.one, total_more (λ x. is_closing x.stage) views u);
@@ -85,7 +86,7 @@ noted_more about words views k id v at live = let u : View = note_of v in record
   changes = λ n d none. k.changes n d (omega (arith, none, total_more (λ x. changing n d x.doing) views u));
   doing = each_more views u k.doing (λ x p. p) tt;
   held = each_more views u k.held (λ x p. p) (λ n c. absurd c);
-  epochs = each_more views u k.epochs (λ x p. p) (tt, λ _. refl);
+  present = each_more views u k.present (λ x p. p) (tt, λ _. refl);
   locked = record {
     count = λ r. omega (arith, total_more (λ x. times r x.holds) views u, k.locked.count r);
     owner = each_more views u k.locked.owner (λ x p. p) (λ r l. absurd (omega arith));
@@ -94,6 +95,9 @@ noted_more about words views k id v at live = let u : View = note_of v in record
   known = each_more views u k.known (λ x p. p) tt;
   reached = each_more views u k.reached (λ x p. p) tt;
   ways = each_more views u k.ways (λ x p. p) tt;
+  worn = each_more views u k.worn (λ x p. p) (k.worn id v at);
+  cut = omega (arith, k.cut, total_more all_cuts views u);
+  acting = each_more views u k.acting (λ x p. p) (λ _. (refl, refl));
   apart = record { low = k.apart.low; own = each_more views u k.apart.own (λ x p. p) (λ r l. absurd (omega arith)); fresh = k.apart.fresh; wrote = each_more views u k.apart.wrote (λ x p. p) tt };
 }
 
@@ -140,7 +144,7 @@ starts about words few_rows few_passes zeros =
       history = record { legal = tt; seen = each_one (IsIn []) v (record { rest = []; is = refl }, tt); longest = omega arith; mine = each_one (IsTrueOf []) v ((λ e. absurd (omega arith)), tt, tt); others = λ i none. refl };
       counted = record { all = refl; few = omega arith };
       drawn = record { once = λ r. omega arith; none_later = λ r l. refl; none_zero = refl };
-      notes = each_one (λ u. AreTrueNotes 0 0 u.notes) v tt;
+      notes = each_one (KnowsHeader 0 0) v record { notes_are = tt; handed_is = omega arith; epochs_are = omega arith };
       gated = record { half = refl; one = omega arith; at = each_one (λ u. IsAt 0 u.stage) v tt; quiet = λ some. refl };
       used = record { enough = omega arith; few = each_one HasFewUses v (omega arith, omega arith) };
       table = subst TableOk (sym state_is) opens.0;
@@ -148,11 +152,14 @@ starts about words few_rows few_passes zeros =
       changes = λ n d none. refl;
       doing = each_one (λ u. DoingOk (state_of m g) u.doing) v tt;
       held = each_one HoldsIts v (λ n c. absurd c);
-      epochs = each_one (KnowsEpoch 0) v (tt, λ _. refl);
+      present = each_one (KnowsEpoch 0) v (tt, λ _. refl);
       locked = record { count = λ r. sym (ap (λ (x : Row). is_taken x.lock) (row_empty (about.rows + 1) r)); owner = each_one (OwnsLocks m.rows) v (λ r l. absurd (omega arith)); writing = each_one (λ u. (r : ℕ) → times r u.holds ≤ in_write u.stage) v (λ r. omega arith) };
       known = each_one (KnowsRows m.rows) v tt;
       reached = each_one (λ u. AllLinked [] u.reached) v tt;
       ways = each_one (IsOnWay (state_of m g)) v tt;
+      worn = each_one (KnowsWorn (state_of m g)) v (λ (e : false ≡ true). cc);
+      cut = refl;
+      acting = each_one ActsAsPass v (λ _. (refl, refl));
       apart = record { low = λ r l. absurd (omega arith); own = each_one (IsOwn []) v (λ r l. absurd (omega arith)); fresh = λ r l z. (ap (λ (x : Row). x.lock) (row_empty (about.rows + 1) r), ap (λ (x : Row). x.stamp) (row_empty (about.rows + 1) r)); wrote = each_one (KnowsOwn m.rows) v tt };
     }
   where
@@ -199,7 +206,7 @@ issues about id v hands idle room s k at =
         none_later = λ r l. omega (arith, all (λ x. times r x.drawn), k.drawn.none_later r l);
         none_zero = omega (arith, all (λ x. times 0 x.drawn), k.drawn.none_zero);
       };
-      notes = each_split s.views id w u k.notes (λ x p. p) (k.notes id v at) tt;
+      notes = each_split s.views id w u k.notes (λ x p. p) (k.notes id v at) record { notes_are = tt; handed_is = omega arith; epochs_are = omega arith };
       gated = record {
         half = omega (arith, k.gated.half, all (λ x. in_write x.stage), all (λ x. is_closing x.stage));
         one = omega (arith, k.gated.one, all (λ x. is_closing x.stage));
@@ -215,7 +222,7 @@ issues about id v hands idle room s k at =
       changes = λ n d none. k.changes n d (omega (arith, none, all (λ x. changing n d x.doing)));
       doing = each_split s.views id w u k.doing (λ x p. p) (k.doing id v at) tt;
       held = each_split s.views id w u k.held (λ x p. p) (k.held id v at) (λ n c. absurd c);
-      epochs = each_split s.views id w u k.epochs (λ x p. p) (k.epochs id v at) (tt, λ _. refl);
+      present = each_split s.views id w u k.present (λ x p. p) (k.present id v at) (tt, λ _. refl);
       locked = record {
         count = λ r. omega (arith, all (λ x. times r x.holds), k.locked.count r);
         owner = each_split s.views id w u k.locked.owner (λ x p. p) (λ r l. absurd (omega (arith, free r))) (λ r l. absurd (omega arith));
@@ -224,5 +231,8 @@ issues about id v hands idle room s k at =
       known = each_split s.views id w u k.known (λ x p. p) (k.known id v at) tt;
       reached = each_split s.views id w u k.reached (λ x p. p) (k.reached id v at) tt;
       ways = each_split s.views id w u k.ways (λ x p. p) (k.ways id v at) tt;
+      worn = each_split s.views id w u k.worn (λ x p. p) (k.worn id v at) (λ (e : false ≡ true). cc);
+      cut = omega (arith, k.cut, all all_cuts);
+      acting = each_split s.views id w u k.acting (λ x p. p) (k.acting id v at) (λ z. absurd (omega (arith, z)));
       apart = record { low = k.apart.low; own = each_split s.views id w u k.apart.own (λ x p. p) (k.apart.own id v at) (λ r l. absurd (omega arith)); fresh = k.apart.fresh; wrote = each_split s.views id w u k.apart.wrote (λ x p. p) (k.apart.wrote id v at) tt };
     }

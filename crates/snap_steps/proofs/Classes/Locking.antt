@@ -11,7 +11,7 @@ use Rattle.snap_steps.specs.Rule.Changes.{changing, HoldsIts}
 use Rattle.snap_steps.specs.Steps.Locks.{locked}
 use Rattle.snap_steps.specs.Stages.{in_write, owes_count, has_counted}
 use Rattle.snap_steps.specs.Each.{Each}
-use Rattle.snap_steps.specs.Rule.Notes.{AreTrueNotes}
+use Rattle.snap_steps.specs.Rule.Notes.{AreTrueNotes, KnowsHeader}
 use Rattle.snap_steps.specs.Rule.Locks.{AreLocked, KnowsRows}
 use Rattle.snap_steps.specs.Rule.Ways.{AllLinked, IsOnWay}
 use Rattle.snap_steps.specs.Rule.Epochs.{KnowsEpoch}
@@ -30,7 +30,10 @@ use Rattle.snap_steps.proofs.EachView.{each_stays}
 use Rattle.snap_steps.proofs.Parts.Gate.{gated_stays}
 use Rattle.snap_steps.proofs.Parts.History.{history_stays}
 use Rattle.snap_steps.proofs.Parts.Names.{named_stays}
-use Rattle.snap_steps.proofs.Parts.Uses.{used_stays}
+use Rattle.snap_steps.proofs.Parts.Uses.{used_stays, cut_stays}
+use Rattle.snap_steps.specs.Rule.Worn.{KnowsWorn}
+use Rattle.snap_steps.specs.Rule.Names.{ActsAsPass}
+use Rattle.snap_steps.proofs.Parts.Worn.{worns_evolve}
 
 -- a step on a lock word
 pub locking : (about : About) (words : List ℕ) (views : List View) (k : Kept about words views) (id : ℕ) (v : View) (at : get_elem? views id ≡ some v) (r n : ℕ) (low : r ≤ about.rows) (holds : List ℕ) (knows : List Fact)
@@ -49,7 +52,7 @@ locking about words views k id v at r n low holds knows writing are_locked known
       history = history_stays views id v w at k.g.history k.history refl refl refl refl refl refl;
       counted = record { all = omega (arith, k.counted.all, total-set (λ u. owes_count u.stage) views id v w at); few = omega (arith, k.counted.few, total-set (λ u. has_counted u.stage) views id v w at) };
       drawn = drawn_stays views id v w at k.m.next k.m.next k.drawn (omega arith) (λ x. refl);
-      notes = each_stays views id v w at (λ u. AreTrueNotes k.m.next k.m.epoch u.notes) k.notes (λ p. p);
+      notes = each_stays views id v w at (KnowsHeader k.m.next k.m.epoch) k.notes (λ p. p);
       gated = gated_stays views id v w at k.m.gate k.m.left k.gated refl;
       used = used_stays views id v w at k.m.gate k.m.epoch k.used refl refl refl refl refl;
       locked = are_locked;
@@ -59,9 +62,12 @@ locking about words views k id v at r n low holds knows writing are_locked known
       changes = λ y d none. k.changes y d (omega (arith, none, total-set (λ u. changing y d u.doing) views id v w at));
       doing = each_stays views id v w at (λ u. DoingOk (state_of (record k.m { rows = rows' }) k.g) u.doing) (doings_stay (state_of k.m k.g) (state_of (record k.m { rows = rows' }) k.g) views k.doing (λ j u there y c. moves.2 y tt)) (λ p. p);
       held = each_stays views id v w at HoldsIts k.held (λ p. held);
-      epochs = each_stays views id v w at (KnowsEpoch k.m.epoch) k.epochs (λ p. p);
+      present = each_stays views id v w at (KnowsEpoch k.m.epoch) k.present (λ p. p);
       reached = each_stays views id v w at (λ u. AllLinked k.g.linked u.reached) k.reached (λ p. p);
       ways = each_stays views id v w at (IsOnWay (state_of (record k.m { rows = rows' }) k.g)) (ways_evolve (state_of k.m k.g) (state_of (record k.m { rows = rows' }) k.g) views moves.0 k.history.seen k.ways) (λ p. p);
+      worn = each_stays views id v w at (KnowsWorn (state_of (record k.m { rows = rows' }) k.g)) (worns_evolve (state_of k.m k.g) (state_of (record k.m { rows = rows' }) k.g) views moves.0 k.worn) (λ p. p);
+      cut = cut_stays views id v w at k.m.epoch k.cut refl refl;
+      acting = each_stays views id v w at ActsAsPass k.acting (λ p. p);
       apart = apart_changed views id v w at k.m.next k.m.rows k.g.linked k.apart (λ u j there. omega (arith, k.drawn.none_zero, term_le (λ y. times 0 y.drawn) views j u there)) r (with_field Lock n (row k.m.rows r))
           (λ s pos z ne. let q = row_other k.m.rows r s (with_field Lock n (row k.m.rows r)) ne in let f = k.apart.fresh s pos z in (ap (λ (y : Row). y.lock) q ∙ f.0, ap (λ (y : Row). y.stamp) q ∙ f.1)) is_linked refl refl refl;
     }

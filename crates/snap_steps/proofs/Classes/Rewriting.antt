@@ -15,7 +15,7 @@ use Rattle.snap_steps.specs.Rule.Changes.{changing, HoldsIts}
 use Rattle.snap_steps.specs.Stages.{in_write, owes_count, has_counted}
 use Rattle.snap_steps.specs.Rule.Words.{IsMemory, KnowsAbout}
 use Rattle.snap_steps.specs.Each.{Each}
-use Rattle.snap_steps.specs.Rule.Notes.{AreTrueNotes}
+use Rattle.snap_steps.specs.Rule.Notes.{AreTrueNotes, KnowsHeader}
 use Rattle.snap_steps.specs.Rule.Locks.{AreLocked, KnowsRows}
 use Rattle.snap_steps.specs.Rule.Ways.{AllLinked, IsOnWay}
 use Rattle.snap_steps.specs.Rule.Epochs.{KnowsEpoch}
@@ -31,8 +31,11 @@ use Rattle.snap_steps.proofs.Reached.{all_linked_grows}
 use Rattle.snap_steps.proofs.Parts.Drawn.{drawn_stays}
 use Rattle.snap_steps.proofs.Parts.Names.{named_stays}
 use Rattle.snap_steps.proofs.Parts.Gate.{gated_stays}
-use Rattle.snap_steps.proofs.Parts.Uses.{used_stays}
+use Rattle.snap_steps.proofs.Parts.Uses.{used_stays, cut_stays}
 use Rattle.snap_steps.proofs.Parts.History.{history_stays}
+use Rattle.snap_steps.specs.Rule.Worn.{KnowsWorn}
+use Rattle.snap_steps.specs.Rule.Names.{ActsAsPass}
+use Rattle.snap_steps.proofs.Parts.Worn.{worns_evolve}
 
 -- the class of these steps
 pub rewriting : (about : About) (words : List ℕ) (views : List View) (k : Kept about words views) (id : ℕ) (v : View) (at : get_elem? views id ≡ some v) (words' : List ℕ) (rows' : List Row) (b : Beside) (steps : ℕ) (doing : Doing) (knows : List Fact) (away : ℕ → Type 0)
@@ -55,7 +58,7 @@ rewriting about words views k id v at words' rows' b steps doing knows away memo
       history = history_stays views id v w at k.g.history k.history refl refl refl refl refl refl;
       counted = record { all = omega (arith, k.counted.all, total-set (λ u. owes_count u.stage) views id v w at); few = omega (arith, k.counted.few, total-set (λ u. has_counted u.stage) views id v w at) };
       drawn = drawn_stays views id v w at k.m.next k.m.next k.drawn (omega arith) (λ x. refl);
-      notes = each_stays views id v w at (λ u. AreTrueNotes k.m.next k.m.epoch u.notes) k.notes (λ p. p);
+      notes = each_stays views id v w at (KnowsHeader k.m.next k.m.epoch) k.notes (λ p. p);
       gated = gated_stays views id v w at k.m.gate k.m.left k.gated refl;
       used = used_stays views id v w at k.m.gate k.m.epoch k.used refl refl refl refl refl;
       locked = locked;
@@ -65,8 +68,11 @@ rewriting about words views k id v at words' rows' b steps doing knows away memo
       changes = pending;
       doing = each_others views id v at w (λ j u ne there. doing_kept s s' u.doing (λ n c. moves.0.2 n (clear j u ne there n c)) (k.doing j u there)) moves.1;
       held = each_others views id v at w (λ j u ne there. k.held j u there) held;
-      epochs = each_stays views id v w at (KnowsEpoch k.m.epoch) k.epochs (λ p. p);
+      present = each_stays views id v w at (KnowsEpoch k.m.epoch) k.present (λ p. p);
       reached = each_set {P = λ u. AllLinked k.g.linked u.reached} {Q = λ u. AllLinked b.linked u.reached} views id w k.reached (λ u p. all_linked_grows k.g.linked b.linked ev.linked u.reached p) (all_linked_grows k.g.linked b.linked ev.linked v.reached (k.reached id v at));
       ways = each_stays views id v w at (IsOnWay s') (ways_evolve s s' views ev k.history.seen k.ways) (λ p. p);
+      worn = each_stays views id v w at (KnowsWorn s') (worns_evolve s s' views ev k.worn) (λ p. p);
+      cut = cut_stays views id v w at k.m.epoch k.cut refl refl;
+      acting = each_stays views id v w at ActsAsPass k.acting (λ p. p);
       apart = apart;
     }

@@ -48,6 +48,7 @@ use Rattle.snap_stamp.specs.declared.side.Side.TheVariants as sides
 use mathlib.Core.Option as maybe
 use Rattle.snap_rule.specs.Rule as rule
 use Rattle.snap_rule.specs.RotationKinds as rotation_kinds
+use Rattle.snap_steps.specs.Rule.History.{whole}
 
 link_is : (n m : ℕ) (d e : Side) → at_link n d m e ≢ 0 → (n ≡ m) × (d ≡ e)
 link_is n m sides.Left sides.Left h = (dite (ℕ_discrete n m) (λ q. q) (λ ne. absurd (h (one_other n m ne))), refl)
@@ -90,9 +91,9 @@ pub shrinks : (about : About) (slots id : ℕ) (me : Sat) (parent : ℕ) (p : Si
 shrinks about slots id me parent p r d raised x low turn stamp_known unmarked whole s k wide at small =
     let v : View = me.0 in let w : View = shrunk v parent p r d raised (x + 2) in let rows_wide = k.memory.wide in let near : r < length k.m.rows = omega arith in
     let o : Row = with_field Stamp (x + 2) (row k.m.rows r) in let rows' : List Row = changed k.m.rows r Stamp (x + 2) in let st : Table = state_of k.m k.g in
-    let known = k.known id v at in let epochs = (k.epochs id v at).0 in
+    let known = k.known id v at in let present = (k.present id v at).0 in
     let linked : (n : ℕ) → 0 < times n v.reached → In n k.g.linked = λ n. in_of k.g.linked v.reached n (k.reached id v at) in
-    let alive : (n : ℕ) → 0 < times n v.reached → IsBorn v n → IsLive st n = λ n l. born_live st k.m.rows k.m.epoch v n k.table refl refl refl known epochs (linked n l) in
+    let alive : (n : ℕ) → 0 < times n v.reached → IsBorn v n → IsLive st n = λ n l. born_live st k.m.rows k.m.epoch v n k.table refl refl refl known present (linked n l) in
     let live : IsLive st r = alive r turn.reached turn.born in
     let stamp : (row k.m.rows r).stamp ≡ x = known_is k.m.rows v.holds v.knows r Stamp x known stamp_known in
     let writing : in_write v.stage ≡ 1 = let held = turn.held in omega (arith, k.locked.writing id v at r, in_write_le v.stage) in

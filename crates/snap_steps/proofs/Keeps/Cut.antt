@@ -1,5 +1,5 @@
 -- The cut of a clone keeps the rule.
-use Rattle.std.proofs.Common.{true, false, ◌≡◌, ℕ, ◌+◌, ◌%◌, ◌^◌, List, [], get_or, sym, refl, ap, ◌∙◌, subst, arith}
+use Rattle.std.proofs.Common.{true, false, ◌≡◌, ℕ, ◌+◌, ◌%◌, ◌^◌, List, [], get_or, sym, refl, ap, ◌∙◌, subst, arith, length, length-append, ◌∷◌}
 use lib.ListN.{get_elem?}
 use mathlib.Core.Option.{some}
 use Rattle.atomic_table.specs.Table.{step, keeps, Allows}
@@ -20,7 +20,7 @@ use Rattle.snap_steps.specs.Roles.{is_counted}
 use Rattle.snap_steps.specs.Rule.Epochs.{AllAre, KnowsEpoch}
 use Rattle.snap_steps.specs.Rule.Gate.{IsAt}
 use Rattle.snap_steps.specs.Rule.History.{IsIn, IsTrueOf, whole}
-use Rattle.snap_steps.specs.Rule.Names.{names}
+use Rattle.snap_steps.specs.Rule.Names.{names, ActsAsPass}
 use Rattle.snap_steps.specs.Rule.Words.{KnowsAbout}
 use Rattle.snap_steps.specs.Rule.Locks.{KnowsRows}
 use Rattle.snap_steps.specs.Rule.Ways.{AllLinked, IsOnWay}
@@ -30,7 +30,7 @@ use Rattle.snap_steps.specs.declared.view.Stage.TheVariants.{Closing}
 use Rattle.snap_steps.specs.declared.rule.About.{About}
 use Rattle.snap_steps.proofs.EachView.{each_set, none_total, each_stays, each_others}
 use Rattle.snap_steps.proofs.Totals.{total-set, term_le}
-use Rattle.snap_steps.proofs.Notes.{notes_later}
+use Rattle.snap_steps.proofs.Notes.{notes_later, header_later}
 use Rattle.snap_steps.proofs.Prefixes.{begins_itself, begins_length}
 use Rattle.snap_steps.proofs.Memories.{epoch_is, epoch_set}
 use Rattle.snap_steps.proofs.Tables.{ways_evolve, doings_stay, none_changing}
@@ -45,6 +45,10 @@ use Rattle.snap_steps.proofs.Classes.Turning.{Rule}
 use Rattle.snap_steps.specs.Steps.Told.{Sat}
 use mathlib.Core.Option as maybe
 use Rattle.snap_rule.specs.CloneKinds as clone_kinds
+use Rattle.snap_steps.specs.Rule.Worn.{KnowsWorn}
+use Rattle.snap_steps.proofs.Parts.Worn.{worns_evolve}
+use Rattle.snap_steps.specs.Numbers.{all_cuts}
+use Rattle.snap_steps.specs.Steps.Way.{goes_on}
 
 -- K14
 pub cuts : (about : About) (slots id : ℕ) (me : Sat) (gate : ℕ) → me.0.role ≡ Passing → me.0.joined ≡ [] → me.0.stage ≡ Closing gate true false → Allows (Rule about) slots id me 4 (λ n. (n + 1) % 2 ^ 64) (cut_told (step slots 4 1 0 maybe.none) me)
@@ -82,13 +86,13 @@ cuts about slots id me gate passing alone closing s k wide at small =
         history = record {
           legal = k.history.legal;
           seen = each_stays views id v w at (IsIn log) k.history.seen (λ p. (begins_itself log, p.1));
-          longest = omega (arith, k.history.longest, whole_grows log v w (begins_length v.seen w.seen more) (begins_length w.seen log (begins_itself log)), total-set (whole log) views id v w at);
+          longest = omega (arith, k.history.longest, whole_grows log v w refl (begins_length v.seen w.seen more) (begins_length w.seen log (begins_itself log)), total-set (whole log) views id v w at);
           mine = each_stays views id v w at (IsTrueOf log) k.history.mine (λ p. ((λ e. let t = p.0 e in (t.0, refl)), p.1, p.1));
           others = λ i z. k.history.others i (omega (arith, z, total-set (names i) views id v w at));
         };
         counted = record { all = omega (arith, k.counted.all, total-set (λ u. owes_count u.stage) views id v w at); few = omega (arith, k.counted.few, total-set (λ u. has_counted u.stage) views id v w at) };
         drawn = drawn_stays views id v w at k.m.next k.m.next k.drawn (omega arith) (λ x. refl);
-        notes = each_set views id w k.notes (λ u p. notes_later k.m.next k.m.next k.m.epoch new (omega arith) (omega arith) u.notes p) (notes_later k.m.next k.m.next k.m.epoch new (omega arith) (omega arith) v.notes (k.notes id v at));
+        notes = each_set views id w k.notes (header_later k.m.next k.m.next k.m.epoch new (omega arith) (omega arith)) (header_later k.m.next k.m.next k.m.epoch new (omega arith) (omega arith) v (k.notes id v at));
         gated = gated_moves views id v w at k.m.gate k.m.left k.m.gate k.m.left g (omega arith) (omega (arith, g.one)) (λ some. omega (arith, none, total-set (λ u. in_write u.stage) views id v w at))
             (each_stays views id v w at (λ u. IsAt k.m.gate u.stage) g.at (λ p. subst (IsAt k.m.gate) (sym stage) (subst (IsAt k.m.gate) closing p)));
         used = used_moves views id v w at k.m.gate k.m.epoch k.m.gate new k.used refl refl refl (omega arith) (k.used.few id v at).0;
@@ -99,9 +103,12 @@ cuts about slots id me gate passing alone closing s k wide at small =
         changes = λ n e z. k.changes n e (omega (arith, z, total-set (λ u. changing n e u.doing) views id v w at));
         doing = each_stays views id v w at (λ u. DoingOk s' u.doing) (doings_stay st s' views k.doing (λ j u there n x. absurd (omega (arith, k.held j u there n x, free j u there n)))) (λ p. p);
         held = each_stays views id v w at HoldsIts k.held (λ p. p);
-        epochs = each_others views id v at w (λ j u ne there. no_epochs u (idle j u there) (k.epochs j u there)) (no_epochs w a' ((k.epochs id v at).0, (λ _. (k.epochs id v at).1 a)));
+        present = each_others views id v at w (λ j u ne there. no_epochs u (idle j u there) (k.present j u there)) (no_epochs w a' ((k.present id v at).0, (λ _. (k.present id v at).1 a)));
         reached = each_stays views id v w at (λ u. AllLinked k.g.linked u.reached) k.reached (λ p. p);
         ways = each_set {P = IsOnWay s'} {Q = IsOnWay s'} views id w (ways_evolve st s' views ev k.history.seen k.ways) (λ u p. p) tt;
+        worn = each_stays views id v w at (KnowsWorn s') (worns_evolve st s' views ev k.worn) (λ p. p);
+        cut = omega (arith, k.cut, up, total-set all_cuts views id v w at, length-append v.cuts (length log ∷ []));
+        acting = each_stays views id v w at ActsAsPass k.acting (λ _ z. absurd (omega (arith, z, ap is_counted passing)));
         apart = apart_stays views id v w at k.m.next k.m.next k.m.rows k.g.linked k.apart (omega arith) (λ p. p) (λ p. p);
       },
       (log, record { goes_on = more; legal = k.history.legal; own = sym own.0 }, refl),

@@ -26,7 +26,7 @@ use Rattle.snap_steps.specs.declared.view.Role.TheVariants.{Passing}
 use Rattle.snap_steps.specs.declared.rule.About.{About}
 use Rattle.snap_steps.proofs.EachView.{each_set, each_stays}
 use Rattle.snap_steps.proofs.Totals.{one_other, one_same, times-append, total-set}
-use Rattle.snap_steps.proofs.Notes.{notes_later}
+use Rattle.snap_steps.proofs.Notes.{notes_later, header_later}
 use Rattle.snap_steps.proofs.Memories.{next_is, next_set}
 use Rattle.snap_steps.proofs.Parts.Apart.{apart_stays}
 use Rattle.snap_steps.proofs.Knowing.{facts_more}
@@ -34,10 +34,12 @@ use Rattle.snap_steps.proofs.Parts.Drawn.{drawn_more}
 use Rattle.snap_steps.proofs.Parts.Names.{named_stays}
 use Rattle.snap_steps.proofs.Parts.Gate.{gated_stays}
 use Rattle.snap_steps.proofs.Parts.Locks.{locked_stays}
-use Rattle.snap_steps.proofs.Parts.Uses.{used_stays}
+use Rattle.snap_steps.proofs.Parts.Uses.{used_stays, cut_stays}
 use Rattle.snap_steps.proofs.Parts.History.{history_stays}
 use Rattle.snap_steps.proofs.Classes.Turning.{Rule, noting}
 use Rattle.snap_steps.specs.Steps.Told.{Sat}
+use Rattle.snap_steps.specs.Rule.Worn.{KnowsWorn}
+use Rattle.snap_steps.specs.Rule.Names.{ActsAsPass}
 
 pub draws : (about : About) (slots id : ℕ) (me : Sat) (found : ℕ) (said : Option (Unit {0})) → found < about.rows → me.0.role ≡ Passing
     → Allows (Rule about) slots id me 0 (λ n. either (eqb n found) (found + 1) n) (drawing_tried (step slots 0 found (found + 1) said) me)
@@ -62,19 +64,22 @@ draws about slots id me found said room passing s k wide at small =
         changes = λ n d none. k.changes n d (omega (arith, none, total-set (λ u. changing n d u.doing) s.views id me.0 w at));
         doing = each_stays s.views id me.0 w at (λ u. DoingOk (state_of k.m k.g) u.doing) k.doing (λ p. p);
         held = each_stays s.views id me.0 w at HoldsIts k.held (λ p. p);
-        epochs = each_stays s.views id me.0 w at (KnowsEpoch k.m.epoch) k.epochs (λ p. p);
+        present = each_stays s.views id me.0 w at (KnowsEpoch k.m.epoch) k.present (λ p. p);
         apart = subst (λ n. AreApart n k.m.rows k.g.linked (set s.views id w)) here' (apart_stays s.views id me.0 w at k.m.next (k.m.next + 1) k.m.rows k.g.linked k.apart (omega arith) (λ p r l. own_more r l p) (λ p. facts_more k.m.rows (found + 1) me.0.own me.0.wrote p));
         locked = locked_stays s.views id me.0 w at k.m.rows k.locked refl refl (k.locked.writing id me.0 at);
         known = each_stays s.views id me.0 w at (KnowsRows k.m.rows) k.known (λ p. p);
         reached = each_stays s.views id me.0 w at (λ u. AllLinked k.g.linked u.reached) k.reached (λ p. p);
         ways = each_stays s.views id me.0 w at (IsOnWay (state_of k.m k.g)) k.ways (λ p. p);
+        worn = each_stays s.views id me.0 w at (KnowsWorn (state_of k.m k.g)) k.worn (λ p. p);
+        cut = cut_stays s.views id me.0 w at k.m.epoch k.cut refl refl;
+        acting = each_stays s.views id me.0 w at ActsAsPass k.acting (λ p. p);
         named = named_stays s.views id me.0 w at about.passes k.named refl refl refl;
         history = history_stays s.views id me.0 w at k.g.history k.history refl refl refl refl refl refl;
         counted = record { all = omega (arith, k.counted.all, total-set (λ u. owes_count u.stage) s.views id me.0 w at); few = omega (arith, k.counted.few, total-set (λ u. has_counted u.stage) s.views id me.0 w at) };
         gated = gated_stays s.views id me.0 w at k.m.gate k.m.left k.gated refl;
         used = used_stays s.views id me.0 w at k.m.gate k.m.epoch k.used refl refl refl refl refl;
         drawn = subst (λ n. AreDrawn (n + 1) (set s.views id w)) here (drawn_more s.views id me.0 w at k.m.next k.drawn (ap (λ (n : ℕ). me.0.drawn ++ (n + 1) ∷ []) (sym here)));
-        notes = each_set s.views id w k.notes (λ u p. notes_later k.m.next (found + 1) k.m.epoch k.m.epoch (omega arith) (omega arith) u.notes p) (notes_later k.m.next (found + 1) k.m.epoch k.m.epoch (omega arith) (omega arith) me.0.notes (k.notes id me.0 at));
+        notes = each_set s.views id w k.notes (header_later k.m.next (found + 1) k.m.epoch k.m.epoch (omega arith) (omega arith)) (header_later k.m.next (found + 1) k.m.epoch k.m.epoch (omega arith) (omega arith) me.0 (k.notes id me.0 at));
       },
       ((λ _. refl), (λ miss. absurd (miss hit)), omega arith),
     ))

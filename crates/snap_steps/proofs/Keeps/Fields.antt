@@ -1,5 +1,5 @@
 -- Loads of a row's words and stores in own rows keep the rule.
-use Rattle.std.proofs.Common.{◌≡◌, ℕ, ◌≤◌, nat_lt, ◌∷◌, get_or, sym, refl, ◌∙◌, arith, ◌≢◌, ◌<◌, length, ap}
+use Rattle.std.proofs.Common.{◌≡◌, ℕ, ◌≤◌, nat_lt, ◌∷◌, get_or, sym, refl, ◌∙◌, arith, ◌≢◌, ◌<◌, length, ap, ⊎_elim, ◌⊎◌}
 use Rattle.std.proofs.lemmas.Bool.{cond_both}
 use Rattle.std.proofs.lemmas.Bool.Decides.{nat_tests}
 use lib.ListN.{get_elem?}
@@ -14,7 +14,7 @@ use Rattle.snap_stamp.specs.declared.layout.Field.{Field}
 use Rattle.snap_stamp.specs.declared.layout.Field.TheVariants.{Stamp, Lock}
 use Rattle.snap_steps.specs.Counting.{times}
 use Rattle.snap_steps.specs.Memory.{field, row, Row, with_field}
-use Rattle.snap_steps.specs.Steps.Fields.{read, led_to, word_loaded, own_stored, stored_own}
+use Rattle.snap_steps.specs.Steps.Fields.{read, led_to, word_loaded, own_stored, stored_own, is_last}
 use Rattle.snap_steps.specs.Facts.{fact, AreFacts}
 use Rattle.snap_steps.specs.Rule.Locks.{KnowsRows, is_taken}
 use Rattle.snap_steps.specs.declared.view.View.{View}
@@ -30,7 +30,7 @@ use Rattle.snap_steps.specs.Rule.Changes.{changing, HoldsIts}
 use Rattle.snap_steps.specs.Steps.Locks.{locked}
 use Rattle.snap_steps.specs.Stages.{in_write, owes_count, has_counted}
 use Rattle.snap_steps.specs.Rule.Apart.{IsOwn}
-use Rattle.snap_steps.specs.Rule.Notes.{AreTrueNotes}
+use Rattle.snap_steps.specs.Rule.Notes.{AreTrueNotes, KnowsHeader}
 use Rattle.snap_steps.specs.Rule.Ways.{AllLinked, IsOnWay}
 use Rattle.snap_steps.specs.Rule.Epochs.{KnowsEpoch}
 use Rattle.snap_steps.specs.Rule.Words.{KnowsAbout}
@@ -43,21 +43,25 @@ use Rattle.snap_steps.proofs.Parts.Drawn.{not_theirs, drawn_stays}
 use Rattle.snap_steps.proofs.Parts.Gate.{gated_stays}
 use Rattle.snap_steps.proofs.Parts.History.{history_stays}
 use Rattle.snap_steps.proofs.Parts.Names.{named_stays}
-use Rattle.snap_steps.proofs.Parts.Uses.{used_stays}
+use Rattle.snap_steps.proofs.Parts.Uses.{used_stays, cut_stays}
 use mathlib.Core.Option as maybe
+use Rattle.snap_steps.specs.Rule.Worn.{KnowsWorn}
+use Rattle.snap_steps.specs.Rule.Names.{ActsAsPass}
+use Rattle.snap_steps.proofs.Parts.Worn.{worns_evolve, or_cases, last_found}
 
 -- K4
 pub reads : (about : About) (slots id : ℕ) (me : Sat) (r : ℕ) (f : Field) → r ≤ about.rows → Allows (Rule about) slots id me (word_at r f) (λ n. n) (word_loaded (step slots (word_at r f) 0 0 maybe.none) me)
 reads about slots id me r f low s k wide at small =
     let v : View = me.0 in let found : ℕ = get_or s.words (word_at r f) 0 in let is : found ≡ field f (row k.m.rows r) = cell_is k.memory r f low in
     let w : View = read v r f found in let seen = k.history.seen id v at in let known = k.known id v at in
+    let worn : KnowsWorn (state_of k.m k.g) w = λ saw. ⊎_elim (k.worn id v at) (last_found about s.words s.views k r f found (sym is)) (or_cases v.worn (is_last f found) saw) in
     let facts : KnowsRows k.m.rows w = cond_both (nat_lt 0 (times r v.holds)) (fact r f found ∷ v.knows) v.knows (λ l. AreFacts k.m.rows v.holds l) (λ held. (sym is, grind (arith, nat_tests), known)) (λ not. known) in (
       w,
       keeps,
       tt,
       seeing about s.words s.views k (word_at r f) id v w at (k.about_known id v at) refl refl refl refl refl refl refl refl refl refl refl facts
-          (in_append k.g.linked v.reached (led_to v r f found) (k.reached id v at) (led_in k.m k.g v r f found k.table (k.reached id v at) (sym is))) (k.ways id v at) (k.epochs id v at)
-          (k.notes id v at) (begins_itself v.seen) seen.0 seen.1,
+          (in_append k.g.linked v.reached (led_to v r f found) (k.reached id v at) (led_in k.m k.g v r f found k.table (k.reached id v at) (sym is))) (k.ways id v at) (k.present id v at)
+          (k.notes id v at) worn refl (begins_itself v.seen) seen.0 seen.1,
       λ r' f' same. let t = one_word r r' f f' same in ((λ i. (read v (t.0 i) (t.1 i) found, me.1)), λ x there. is ∙ (λ i. field (t.1 i) (row k.m.rows (t.0 i))) ∙ known_is k.m.rows v.holds v.knows r' f' x known there),
     )
 
@@ -84,7 +88,7 @@ stores_own about slots id me r new f low no_lock no_stamp mine s k wide at small
         history = history_stays s.views id v w at k.g.history k.history refl refl refl refl refl refl;
         counted = record { all = omega (arith, k.counted.all, total-set (λ u. owes_count u.stage) s.views id v w at); few = omega (arith, k.counted.few, total-set (λ u. has_counted u.stage) s.views id v w at) };
         drawn = drawn_stays s.views id v w at k.m.next k.m.next k.drawn (omega arith) (λ y. refl);
-        notes = each_stays s.views id v w at (λ u. AreTrueNotes k.m.next k.m.epoch u.notes) k.notes (λ p. p);
+        notes = each_stays s.views id v w at (KnowsHeader k.m.next k.m.epoch) k.notes (λ p. p);
         gated = gated_stays s.views id v w at k.m.gate k.m.left k.gated refl;
         used = used_stays s.views id v w at k.m.gate k.m.epoch k.used refl refl refl refl refl;
         locked = locks_stay s.views id v at k.m.rows r x w k.locked lock near refl refl refl;
@@ -94,9 +98,12 @@ stores_own about slots id me r new f low no_lock no_stamp mine s k wide at small
         changes = λ y d none. k.changes y d (omega (arith, none, total-set (λ u. changing y d u.doing) s.views id v w at));
         doing = each_stays s.views id v w at (λ u. DoingOk (state_of (record k.m { rows = changed k.m.rows r f new }) k.g) u.doing) (doings_stay (state_of k.m k.g) (state_of (record k.m { rows = changed k.m.rows r f new }) k.g) s.views k.doing (λ j u there y c. moves.2 y (λ e. omega (arith, k.held j u there y c, apart j u there, ap (λ (i : ℕ). times i u.holds) e)))) (λ p. p);
         held = each_stays s.views id v w at HoldsIts k.held (λ p. p);
-        epochs = each_stays s.views id v w at (KnowsEpoch k.m.epoch) k.epochs (λ p. p);
+        present = each_stays s.views id v w at (KnowsEpoch k.m.epoch) k.present (λ p. p);
         reached = each_stays s.views id v w at (λ u. AllLinked k.g.linked u.reached) k.reached (λ p. p);
         ways = each_stays s.views id v w at (IsOnWay (state_of (record k.m { rows = changed k.m.rows r f new }) k.g)) (ways_evolve (state_of k.m k.g) (state_of (record k.m { rows = changed k.m.rows r f new }) k.g) s.views moves.0 k.history.seen k.ways) (λ p. p);
+        worn = each_stays s.views id v w at (KnowsWorn (state_of (record k.m { rows = changed k.m.rows r f new }) k.g)) (worns_evolve (state_of k.m k.g) (state_of (record k.m { rows = changed k.m.rows r f new }) k.g) s.views moves.0 k.worn) (λ p. p);
+        cut = cut_stays s.views id v w at k.m.epoch k.cut refl refl;
+        acting = each_stays s.views id v w at ActsAsPass k.acting (λ p. p);
         apart = record {
           low = k.apart.low;
           own = each_stays s.views id v w at (IsOwn k.g.linked) k.apart.own (λ p. p);

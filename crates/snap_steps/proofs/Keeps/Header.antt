@@ -1,5 +1,5 @@
 -- Loads of the header keep the rule.
-use Rattle.std.proofs.Common.{◌≡◌, ℕ, get_or, refl, ap, arith, ◌+◌, ◌-◌, ◌/◌, ◌<◌, ⊎_elim, [], ◌∷◌, ◌++◌, set, sym, subst}
+use Rattle.std.proofs.Common.{◌≡◌, ℕ, get_or, refl, ap, arith, ◌+◌, ◌-◌, ◌/◌, ◌<◌, ⊎_elim, [], ◌∷◌, ◌++◌, set, sym, subst, ◌⊎◌}
 use mathlib.Core.Logic.{dite}
 use mathlib.Core.Option.{none, some}
 use native.Mathlib.Decide.{dec_le}
@@ -17,7 +17,7 @@ use Rattle.snap_steps.specs.Stages.{after_left, in_write, is_closing, is_quiet}
 use Rattle.snap_steps.specs.Rule.Gate.{IsAt}
 use Rattle.snap_steps.specs.declared.view.View.{View}
 use Rattle.snap_steps.proofs.Totals.{term_le, total-set}
-use Rattle.snap_steps.proofs.Notes.{notes_more}
+use Rattle.snap_steps.proofs.Notes.{notes_more, header_more}
 use Rattle.snap_steps.proofs.EachView.{each_stays}
 use Rattle.snap_steps.proofs.Parts.Uses.{used_moves}
 use Rattle.snap_steps.proofs.Parts.Gate.{gated_moves, after_left_counts, after_left_at, after_left_quiet}
@@ -25,6 +25,7 @@ use Rattle.snap_steps.specs.Rule.History.{AllBegin}
 use Rattle.snap_steps.proofs.Prefixes.{begins_itself}
 use Rattle.snap_steps.proofs.Classes.Seeing.{seeing}
 use Rattle.snap_steps.proofs.Parts.Epochs.{epoch_with}
+use Rattle.snap_steps.specs.Steps.Way.{goes_on}
 
 pub loads_next : (about : About) (slots id : ℕ) (me : Sat) → me.0.role ≡ Passing → Allows (Rule about) slots id me 0 (λ n. n) (next_loaded (step slots 0 0 0 none) me)
 loads_next about slots id me passing s k wide at small = let is = next_is k.memory in let room = k.memory.room in let a = (k.about_known id me.0 at (ap is_live passing)).0 in (
@@ -53,10 +54,10 @@ loads_left about slots id me s k wide at small =
       w,
       keeps,
       tt,
-      turning about s.words s.views k id v at (set s.words 2 r) k.m (v.notes ++ Left r ∷ []) (after_left v.stage r) v.uses v.epochs (loaded k.memory 2) refl refl (notes_more k.m.next k.m.epoch v.notes (Left r) (k.notes id v at) tt) (omega (arith, same.3)) (omega (arith, same.4)) refl (λ x. omega (arith, k.locked.writing id v at x, same.0)) ((k.epochs id v at).0, λ z. (k.epochs id v at).1 (omega (arith, same.0, z)))
+      turning about s.words s.views k id v at (set s.words 2 r) k.m (v.notes ++ Left r ∷ []) v.handed v.epochs (after_left v.stage r) v.uses v.present (loaded k.memory 2) refl refl (header_more k.m.next k.m.epoch v (Left r) (k.notes id v at) tt) (omega (arith, same.3)) (omega (arith, same.4)) refl (λ x. omega (arith, k.locked.writing id v at x, same.0)) ((k.present id v at).0, λ z. (k.present id v at).1 (omega (arith, same.0, z)))
           (gated_moves s.views id v w at k.m.gate k.m.left k.m.gate k.m.left g (omega (arith, same.0, same.1)) (omega (arith, same.1, one)) (λ some. omega (arith, none_writes some, same.0))
           (each_stays s.views id v w at (λ u. IsAt k.m.gate u.stage) g.at (λ p. after_left_at k.m.gate v.stage r p)))
-          (used_moves s.views id v w at k.m.gate k.m.epoch k.m.gate k.m.epoch k.used refl refl refl (omega (arith, same.2)) (k.used.few id v at).0) (omega arith) (λ z. omega (arith, same.0)),
+          (used_moves s.views id v w at k.m.gate k.m.epoch k.m.gate k.m.epoch k.used refl refl refl (omega (arith, same.2)) (k.used.few id v at).0) (omega arith) (λ z. omega (arith, same.0)) (λ z. ap (λ st. after_left st r) (k.acting id v at z).0),
       refl,
     )
 
@@ -67,7 +68,7 @@ loads_done about slots id me passing alone s k wide at small =
       w,
       keeps,
       tt,
-      seeing about s.words s.views k 3 id v w at (k.about_known id v at) refl refl refl refl refl refl refl refl refl refl refl (k.known id v at) (k.reached id v at) tt (k.epochs id v at) (notes_more k.m.next k.m.epoch v.notes (Done r) (k.notes id v at) tt) seen (begins_itself k.g.history) (subst (λ l. AllBegin l k.g.history) (sym alone) tt),
+      seeing about s.words s.views k 3 id v w at (k.about_known id v at) refl refl refl refl refl refl refl refl refl refl refl (k.known id v at) (k.reached id v at) tt (k.present id v at) (header_more k.m.next k.m.epoch v (Done r) (k.notes id v at) tt) (k.worn id v at) refl seen (begins_itself k.g.history) (subst (λ l. AllBegin l k.g.history) (sym alone) tt),
       (k.g.history, record { goes_on = seen; legal = k.history.legal; own = sym own.0 }, omega (arith, k.counted.all), refl),
     )
 
@@ -77,6 +78,6 @@ loads_epoch about slots id me s k wide at small =
       w,
       keeps,
       tt,
-      seeing about s.words s.views k 4 id v w at (k.about_known id v at) refl refl refl refl refl refl refl refl refl refl refl (k.known id v at) (k.reached id v at) (k.ways id v at) (epoch_with v.stage k.m.epoch r v.epochs is (k.epochs id v at)) (notes_more k.m.next k.m.epoch v.notes (Epoch r) (k.notes id v at) (omega arith)) (begins_itself v.seen) seen.0 seen.1,
+      seeing about s.words s.views k 4 id v w at (k.about_known id v at) refl refl refl refl refl refl refl refl refl refl refl (k.known id v at) (k.reached id v at) (k.ways id v at) (epoch_with v.stage k.m.epoch r v.present is (k.present id v at)) (header_more k.m.next k.m.epoch v (Epoch r) (k.notes id v at) (omega arith)) (k.worn id v at) refl (begins_itself v.seen) seen.0 seen.1,
       refl,
     )

@@ -60,6 +60,8 @@ use Rattle.snap_rule.specs.Rule as rule
 use mathlib.Core.Option as maybe
 use Rattle.snap_rule.specs.EntryKinds as entry_kinds
 use Rattle.snap_rule.specs.TreeChanges as tree_changes
+use Rattle.snap_steps.specs.Rule.History.{whole}
+use Rattle.snap_steps.specs.Steps.Way.{goes_on}
 
 no_lock : (d : Side) → link_field d ≢ Lock
 no_lock sides.Left = λ e. cc
@@ -102,7 +104,7 @@ links_leaf about slots id me r key value parent f low small_key passing writing 
     let way : StageOk st v.seen key (Standing parent place.stamp d) = standing_at st v.seen key parent place.stamp d v.reads (k.ways id v at) place.way in
     let stamp : st.stamp parent ≡ place.stamp = known_is k.m.rows v.holds v.knows parent Stamp place.stamp known place.still in
     let linked_parent : parent ≢ 0 → In parent k.g.linked = λ nz. is_in (state_of k.m k.g) parent nz way.stamp.reached in
-    let live : parent ≢ 0 → IsLive st parent = λ nz. born_live st k.m.rows k.m.epoch v parent k.table refl refl refl known (k.epochs id v at).0 (linked_parent nz) (is_born v parent nz place.live) in
+    let live : parent ≢ 0 → IsLive st parent = λ nz. born_live st k.m.rows k.m.epoch v parent k.table refl refl refl known (k.present id v at).0 (linked_parent nz) (is_born v parent nz place.live) in
     let under = below st v.seen key parent d way.faces (way.placed stamp) live in
     let none : st.link parent d ≡ 0 = ap (λ (y : Field). field y (row k.m.rows parent)) (sym place.by_side) ∙ known_is k.m.rows v.holds v.knows parent f 0 known place.none in
     let own = k.apart.own id v at r leaf.own in
@@ -133,7 +135,7 @@ links_leaf about slots id me r key value parent f low small_key passing writing 
       value = word Value (suc value) leaf.value;
       height = word Height 1 leaf.height;
       links = no_links (λ h. field h (row k.m.rows r)) (word Left 0 leaf.left) (word Right 0 leaf.right);
-      birth = word Birth leaf.birth leaf.is_birth ∙ all_are k.m.epoch leaf.birth v.epochs (k.epochs id v at).0 leaf.now;
+      birth = word Birth leaf.birth leaf.is_birth ∙ all_are k.m.epoch leaf.birth v.present (k.present id v at).0 leaf.now;
       stamp = fresh.1;
     } in
     let b : Beside = record k.g { links = updates.relink (updates.changed k.g.links r (st.link r)) parent d r; tree = tree_changes.grown parent d (tree_changes.leaf_of r e) k.g.tree; linked = r ∷ k.g.linked } in
@@ -150,7 +152,7 @@ links_leaf about slots id me r key value parent f low small_key passing writing 
       w,
       keeps,
       tt,
-      entering about s.words s.views k id v w at (set s.words (word_at parent f) r) rows' e b false away (cell_set k.memory parent f low r) passing writing refl refl refl (sym absent) refl refl refl refl refl refl refl refl refl refl refl refl refl refl refl moves (λ n y. refl) refl refl clear
+      entering about s.words s.views k id v w at (set s.words (word_at parent f) r) rows' e b false away (cell_set k.memory parent f low r) passing writing refl refl refl (sym absent) refl refl refl refl refl refl refl (k.notes id v at) refl (k.worn id v at) refl refl refl refl refl refl refl moves (λ n y. refl) refl refl clear
           (locks_stay s.views id v at k.m.rows parent x w k.locked (field_other Lock f r (row k.m.rows parent) (λ z. is_lock (sym z))) near refl refl (sym (ap in_write writing)))
           (each_others s.views id v at w (λ j u ne there. facts_elsewhere k.m.rows parent x u.holds u.holds u.knows (k.known j u there) (others_apart s.views id v at k.m.rows parent k.locked place.held j u ne there) (λ y. omega arith))
           (ap (field f) (row_same k.m.rows parent x near) ∙ field_same f r (row k.m.rows parent), place.held, facts_left k.m.rows parent f r v.holds v.knows near known))

@@ -34,6 +34,7 @@ use Rattle.snap_steps.proofs.Classes.Locking.{locking}
 use Rattle.snap_steps.specs.Facts.{forgotten_row}
 use Rattle.snap_steps.proofs.Parts.Counts.{in_write_le}
 use mathlib.Core.Option as maybe
+use Rattle.snap_steps.specs.Rule.History.{whole}
 
 -- K5
 pub locks : (about : About) (slots id : ℕ) (me : Sat) (r new : ℕ) (said : maybe.Option (Unit {0})) (made counted : Bool) → r ≤ about.rows → new ≡ me.0.who + 1 → me.0.stage ≡ Writing made counted → times r me.0.holds ≡ 0 → (r ≡ 0) ⊎ (0 < times r me.0.reached)
@@ -73,7 +74,7 @@ locks about slots id me r new said made counted low up writing free comes s k wi
       missed v,
       keeps,
       tt,
-      seeing about s.words s.views k (word_at r Lock) id v (missed v) at (k.about_known id v at) refl refl refl refl refl refl refl refl refl refl refl (k.known id v at) (k.reached id v at) (k.ways id v at) (k.epochs id v at) (k.notes id v at) (begins_itself v.seen) seen.0 seen.1,
+      seeing about s.words s.views k (word_at r Lock) id v (missed v) at (k.about_known id v at) refl refl refl refl refl refl refl refl refl refl refl (k.known id v at) (k.reached id v at) (k.ways id v at) (k.present id v at) (k.notes id v at) (k.worn id v at) refl (begins_itself v.seen) seen.0 seen.1,
       λ r' same. ((λ hit. absurd (miss hit)), λ _. refl),
     ))
 

@@ -48,6 +48,7 @@ use Rattle.snap_steps.proofs.Parts.Gate.{gated_moves}
 use mathlib.Core.Option as maybe
 use Rattle.snap_rule.specs.EntryKinds as entry_kinds
 use Rattle.snap_rule.specs.TreeChanges as tree_changes
+use Rattle.snap_steps.specs.Steps.Way.{goes_on}
 
 -- K8
 pub stores : (about : About) (slots id : ℕ) (me : Sat) (r key new : ℕ) → r ≤ about.rows → me.0.role ≡ Passing → me.0.stage ≡ Writing false false → 0 < times r me.0.holds → 0 < times r me.0.reached → IsKnown me.0.knows r Key key → IsBorn me.0 r
@@ -58,7 +59,7 @@ stores about slots id me r key new low passing writing held reached key_known bo
     let is_key : (row k.m.rows r).key ≡ key = known_is k.m.rows v.holds v.knows r Key key (k.known id v at) key_known in
     let is_linked : In r k.g.linked = in_of k.g.linked v.reached r (k.reached id v at) reached in
     let st : Table = state_of k.m k.g in
-    let live : IsLive st r = born_live st k.m.rows k.m.epoch v r k.table refl refl refl (k.known id v at) (k.epochs id v at).0 is_linked born in
+    let live : IsLive st r = born_live st k.m.rows k.m.epoch v r k.table refl refl refl (k.known id v at) (k.present id v at).0 is_linked born in
     let e : Entry = entry v.who (call_of key new) (value_of found) in let w : View = stored v k.g.history e r new in
     let may : entry_kinds.MayStore st r e = record { writing = some_write s.views id v k.g.writers at k.writers (ap in_write writing); live = live; key = is_key ∙ sym (key_made key new) } in
     let b : Beside = record k.g { tree = tree_changes.with_value r (call_value (call_of key new)) k.g.tree } in
@@ -71,7 +72,7 @@ stores about slots id me r key new low passing writing held reached key_known bo
       w,
       keeps,
       tt,
-      entering about s.words s.views k id v w at (set s.words (word_at r Value) new) rows' e b false Anywhere (cell_set k.memory r Value low new) passing writing refl refl refl reply refl refl refl refl refl refl refl refl refl refl refl refl refl refl refl moves (λ n d. refl) refl refl (λ j u there n c. tt)
+      entering about s.words s.views k id v w at (set s.words (word_at r Value) new) rows' e b false Anywhere (cell_set k.memory r Value low new) passing writing refl refl refl reply refl refl refl refl refl refl refl (k.notes id v at) refl (k.worn id v at) refl refl refl refl refl refl refl moves (λ n d. refl) refl refl (λ j u there n c. tt)
           (locks_stay s.views id v at k.m.rows r x w k.locked refl near refl refl (sym (ap in_write writing)))
           (each_others s.views id v at w (λ j u ne there. facts_elsewhere k.m.rows r x u.holds u.holds u.knows (k.known j u there) (others_apart s.views id v at k.m.rows r k.locked held j u ne there) (λ y. omega arith))
           (ap (λ (y : Row). y.value) (row_same k.m.rows r x near), held, facts_left k.m.rows r Value new v.holds v.knows near (k.known id v at)))
@@ -95,7 +96,7 @@ confirms about slots id me r key low passing writing reached key_known value_kno
     let e : Entry = entry v.who (Remove key) None in let w : View = made_entry v k.g.history e in
     let is_key : (row k.m.rows r).key ≡ key = known_is k.m.rows v.holds v.knows r Key key known key_known in
     let is_zero : (row k.m.rows r).value ≡ 0 = known_is k.m.rows v.holds v.knows r Value 0 known value_known in
-    let live : IsLive st r = born_live st k.m.rows k.m.epoch v r k.table refl refl refl known (k.epochs id v at).0 (in_of k.g.linked v.reached r (k.reached id v at) reached) born in
+    let live : IsLive st r = born_live st k.m.rows k.m.epoch v r k.table refl refl refl known (k.present id v at).0 (in_of k.g.linked v.reached r (k.reached id v at) reached) born in
     let absent : find k.g.tree key ≡ None = ap (find k.g.tree) (sym is_key) ∙ absent_here st r k.table live is_zero in
     let none_there : told k.g.history key ≡ None = sym (k.table.tree.tells key) ∙ absent in
     let may : entry_kinds.MayConfirm st e = record { removal = refl; absent = absent } in
@@ -104,7 +105,7 @@ confirms about slots id me r key low passing writing reached key_known value_kno
       w,
       keeps,
       tt,
-      entering about s.words s.views k id v w at (set s.words (word_at r Value) (get_or s.words (word_at r Value) 0)) k.m.rows e k.g false Anywhere (loaded k.memory (word_at r Value)) passing writing refl refl refl (sym none_there) refl refl refl refl refl refl refl refl refl refl refl refl refl refl refl moves (λ n d. refl) refl refl (λ j u there n c. tt)
+      entering about s.words s.views k id v w at (set s.words (word_at r Value) (get_or s.words (word_at r Value) 0)) k.m.rows e k.g false Anywhere (loaded k.memory (word_at r Value)) passing writing refl refl refl (sym none_there) refl refl refl refl refl refl refl (k.notes id v at) refl (k.worn id v at) refl refl refl refl refl refl refl moves (λ n d. refl) refl refl (λ j u there n c. tt)
           (locked_stays s.views id v w at k.m.rows k.locked refl refl (λ x. omega (arith, k.locked.writing id v at x, ap in_write writing)))
           (each_stays s.views id v w at (KnowsRows k.m.rows) k.known (λ p. p))
           (apart_stays s.views id v w at k.m.next k.m.next k.m.rows k.g.linked k.apart (omega arith) (λ p. p) (λ p. p)),
@@ -123,9 +124,9 @@ counts_done about slots id me writing s k wide at small =
       w,
       keeps,
       tt,
-      turning about s.words s.views k id v at (set s.words 3 new) (record k.m { done = new }) v.notes (Writing true true) v.uses v.epochs (done_set k.memory new) refl refl (k.notes id v at) (omega (arith, o)) (omega (arith, q)) refl (λ x. omega (arith, k.locked.writing id v at x, a)) ((k.epochs id v at).0, λ z. absurd (omega (arith, z)))
+      turning about s.words s.views k id v at (set s.words 3 new) (record k.m { done = new }) v.notes v.handed v.epochs (Writing true true) v.uses v.present (done_set k.memory new) refl refl (k.notes id v at) (omega (arith, o)) (omega (arith, q)) refl (λ x. omega (arith, k.locked.writing id v at x, a)) ((k.present id v at).0, λ z. absurd (omega (arith, z)))
           (gated_moves s.views id v w at k.m.gate k.m.left k.m.gate k.m.left g (omega arith) (omega (arith, g.one)) (λ some. absurd (omega (arith, g.quiet (omega (arith, total-set (λ u. is_quiet u.stage) s.views id v w at)))))
           (each_stays s.views id v w at (λ u. IsAt k.m.gate u.stage) g.at (λ p. tt)))
-          (used_moves s.views id v w at k.m.gate k.m.epoch k.m.gate k.m.epoch k.used refl refl refl (omega (arith, c)) (k.used.few id v at).0) (omega arith) (λ z. omega (arith, a)),
+          (used_moves s.views id v w at k.m.gate k.m.epoch k.m.gate k.m.epoch k.used refl refl refl (omega (arith, c)) (k.used.few id v at).0) (omega arith) (λ z. omega (arith, a)) (λ z. absurd (omega (arith, a, ap in_write (k.acting id v at z).0))),
       refl,
     )

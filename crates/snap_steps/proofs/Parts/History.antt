@@ -9,15 +9,16 @@ use Rattle.snap_model.specs.History.{Begins, calls_of, told, call_key}
 use Rattle.snap_model.specs.declared.call.Entry.{Entry}
 use Rattle.snap_steps.specs.Counting.{times, one_if, total}
 use Rattle.snap_steps.specs.Rule.Names.{names}
-use Rattle.snap_steps.specs.Rule.History.{AllBegin, AreTheirs, IsIn, IsTrueOf, whole, IsHistory}
-use Rattle.snap_steps.specs.Roles.{is_counted, own_number}
+use Rattle.snap_steps.specs.Rule.History.{AllBegin, AreTheirs, IsIn, IsTrueOf, whole, IsHistory, saw_all}
+use Rattle.snap_steps.specs.Roles.{is_counted, own_number, is_opening}
 use Rattle.snap_steps.specs.Numbers.{numbers_of, numbers}
 use Rattle.snap_steps.specs.declared.view.View.{View}
 use Rattle.snap_steps.proofs.Totals.{total-set, one_same, one_other, term_le, terms_le, times-append, at_near}
 use Rattle.snap_steps.proofs.EachView.{each_stays, each_others}
-use Rattle.snap_steps.specs.declared.view.Role.TheVariants.{Passing}
+use Rattle.snap_steps.specs.declared.view.Role.TheVariants.{Passing, Noting, Opening, Spent}
 use Rattle.snap_steps.proofs.Prefixes.{begins_itself, begins_more}
 use Rattle.snap_steps.proofs.Histories.{legal_more, of_mine, of_other, all_begin_more, theirs_later}
+use Rattle.snap_steps.specs.declared.view.Role.{Role}
 
 module _ (views : List View) (id : ℕ) (v w : View) (at : get_elem? views id ≡ some v) where
   pub history_stays : (log : List Entry) → IsHistory log views → w.seen ≡ v.seen → w.joined ≡ v.joined → w.mine ≡ v.mine → w.who ≡ v.who → w.role ≡ v.role → w.admitted ≡ v.admitted → IsHistory log (set views id w)
@@ -26,7 +27,7 @@ module _ (views : List View) (id : ℕ) (v w : View) (at : get_elem? views id �
       record {
         legal = h.legal;
         seen = each_stays views id v w at (IsIn log) h.seen (λ p. (subst (λ l. Begins l log) (sym seen) p.0, subst (λ l. AllBegin l log) (sym joined) p.1));
-        longest = omega (arith, h.longest, ap (λ (l : List Entry). one_if (length l) (length log)) seen, total-set (whole log) views id v w at);
+        longest = let all : whole log w ≡ whole log v = λ i. saw_all (role i) (length (seen i)) (length log) in omega (arith, h.longest, all, total-set (whole log) views id v w at);
         mine = each_stays views id v w at (IsTrueOf log) h.mine (λ p. (
           (λ e. let q = p.0 (ap is_counted (sym role) ∙ e) in (mine ∙ q.0 ∙ ap (calls_of log) (sym who), (λ j. calls_of (seen j) (who j)) ∙ q.1 ∙ ap (calls_of log) (sym who))),
           subst (AreTheirs log) (sym admitted) p.1,
@@ -35,9 +36,25 @@ module _ (views : List View) (id : ℕ) (v w : View) (at : get_elem? views id �
         others = λ i none. h.others i (omega (arith, none, ap (times i) same, total-set (names i) views id v w at));
       }
 
+saw_all_grows : (r : Role) (a b n : ℕ) → a ≤ b → b ≤ n → saw_all r a n ≤ saw_all r b n
+saw_all_grows Passing a b n l m = dite (ℕ_discrete a n) (λ e. omega (arith, one_same a n e, one_same b n (omega arith))) (λ ne. omega (arith, one_other a n ne))
+saw_all_grows Opening a b n l m = omega arith
+saw_all_grows Noting a b n l m = omega arith
+saw_all_grows Spent a b n l m = omega arith
+
+saw_all_over : (r : Role) (a b n : ℕ) → is_opening r ≡ 0 → a ≤ b → b ≤ n → saw_all r a n ≤ saw_all Passing b n
+saw_all_over Passing a b n z l m = saw_all_grows Passing a b n l m
+saw_all_over Opening a b n z l m = absurd (omega arith)
+saw_all_over Noting a b n z l m = omega arith
+saw_all_over Spent a b n z l m = omega arith
+
 -- who has seen all still has, once it has seen more
-pub whole_grows : (log : List Entry) (v w : View) → length v.seen ≤ length w.seen → length w.seen ≤ length log → whole log v ≤ whole log w
-whole_grows log v w a b = dite (ℕ_discrete (length v.seen) (length log)) (λ e. omega (arith, one_same (length v.seen) (length log) e, one_same (length w.seen) (length log) (omega arith))) (λ n. omega (arith, one_other (length v.seen) (length log) n))
+pub whole_grows : (log : List Entry) (v w : View) → w.role ≡ v.role → length v.seen ≤ length w.seen → length w.seen ≤ length log → whole log v ≤ whole log w
+whole_grows log v w role a b = omega (arith, saw_all_grows v.role (length v.seen) (length w.seen) (length log) a b, ap (λ r. saw_all r (length w.seen) (length log)) role)
+
+-- so has the pass to which its seat was joined
+pub whole_over : (log : List Entry) (v w : View) → w.role ≡ Passing → is_opening v.role ≡ 0 → length v.seen ≤ length w.seen → length w.seen ≤ length log → whole log v ≤ whole log w
+whole_over log v w role none a b = omega (arith, saw_all_over v.role (length v.seen) (length w.seen) (length log) none a b, ap (λ r. saw_all r (length w.seen) (length log)) role)
 
 -- what the rule asks of the history, once the entry e of the pass was made
 pub history_entered : (views : List View) (id : ℕ) (v w : View) (at : get_elem? views id ≡ some v) (log : List Entry) (e : Entry) → IsHistory log views → ((i : ℕ) → total (names i) views ≤ 1)
@@ -56,7 +73,7 @@ history_entered views id v w at log e h once passing mine_is reply seen mine who
       legal = legal_more log e h.legal reply;
       seen = each_others views id v at w (λ j u ne is. let q = h.seen j u is in (begins_more u.seen log (e ∷ []) q.0, all_begin_more log e u.joined q.1))
           (subst (λ l. Begins l log') (sym seen) (begins_itself log'), subst (λ l. AllBegin l log') (sym joined) (all_begin_more log e v.joined (h.seen id v at).1));
-      longest = omega (arith, term_le (whole log') (set views id w) id w there, one_same (length w.seen) (length log') (ap length seen));
+      longest = omega (arith, term_le (whole log') (set views id w) id w there, ap (λ r. saw_all r (length w.seen) (length log')) (role ∙ passing), one_same (length w.seen) (length log') (ap length seen));
       mine = each_others views id v at w
           (λ j u ne is.
           let q = h.mine j u is in

@@ -9,7 +9,7 @@ use Rattle.snap_steps.specs.Rule.Uses.{AreUsed, HasFewUses}
 use Rattle.snap_steps.specs.declared.view.Admitted.{Admitted}
 use Rattle.snap_steps.specs.Stages.{may_cut}
 use Rattle.snap_steps.specs.Roles.{own_number}
-use Rattle.snap_steps.specs.Numbers.{numbers_of, numbers, all_uses}
+use Rattle.snap_steps.specs.Numbers.{numbers_of, numbers, all_uses, all_cuts}
 use Rattle.snap_steps.specs.declared.view.View.{View}
 use Rattle.snap_steps.proofs.Totals.{total-set, one_same}
 use Rattle.snap_steps.proofs.EachView.{each_stays}
@@ -36,6 +36,11 @@ module _ (views : List View) (id : ℕ) (v w : View) (at : get_elem? views id �
         enough = omega (arith, h.enough, total-set (λ u. may_cut u.stage) views id v w at, total-set all_uses views id v w at);
         few = each_stays views id v w at HasFewUses h.few (λ p. let theirs : length (numbers_of w.admitted) ≡ length (numbers_of v.admitted) = ap (λ (l : List Admitted). length (numbers_of l)) admitted in (few, omega (arith, p.1)));
       }
+
+  pub cut_stays : (epoch : ℕ) → epoch ≡ total all_cuts views → w.cuts ≡ v.cuts → w.admitted ≡ v.admitted → epoch ≡ total all_cuts (set views id w)
+  cut_stays epoch h cuts admitted =
+      let same : all_cuts w ≡ all_cuts v = λ i. length (cuts i) + total (λ (a : Admitted). length a.cuts) (admitted i) in
+      omega (arith, h, same, total-set all_cuts views id v w at)
 
 pub below : (ℕ → ℕ) → ℕ → ℕ
 below f zero = 0

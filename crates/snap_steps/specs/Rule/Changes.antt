@@ -9,6 +9,7 @@ use Rattle.snap_stamp.specs.declared.side.Side.{Side}
 use Rattle.snap_steps.specs.Counting.{one_if, times}
 use Rattle.snap_steps.specs.declared.view.View.{View}
 use Rattle.snap_stamp.specs.declared.side.Side.TheVariants as sides
+use Rattle.snap_steps.specs.Memory.{row}
 
 -- whether two links are the same
 abbrev pub at_link : ℕ → Side → ℕ → Side → ℕ

@@ -10,6 +10,7 @@ use Rattle.snap_steps.specs.States.{link_field}
 use Rattle.snap_steps.specs.Facts.{IsKnown, IsBorn, forgotten, fact}
 use Rattle.snap_steps.specs.Steps.Told.{Sat, Has}
 use Rattle.snap_stamp.specs.declared.side.Side.TheVariants as sides
+use Rattle.snap_steps.specs.Memory.{row}
 
 -- a row, its parent and its child that is to be raised: all held, born and joined so
 pub record IsTurn (v : View) (parent : ℕ) (p : Side) (r : ℕ) (d : Side) (raised : ℕ) : Type 0 where

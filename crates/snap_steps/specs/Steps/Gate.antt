@@ -1,5 +1,5 @@
 -- Entering a write and leaving it, closing the gate, cutting and opening it again.
-use Rattle.std.specs.Prelude.{◌+◌, false, ℕ, [], List}
+use Rattle.std.specs.Prelude.{◌+◌, false, ℕ, [], List, length, ◌∷◌, ◌++◌}
 use Rattle.atomic_table.specs.Table.{Step}
 use Rattle.snap_model.specs.declared.call.Entry.{Entry}
 use Rattle.snap_rule.specs.declared.reader.Reading.TheVariants.{Resting}
@@ -18,11 +18,11 @@ abbrev pub closed : View → ℕ → View
 closed v gate = record v { stage = Closing gate false false; uses = v.uses + 1 }
 
 abbrev pub idled : View → View
-idled v = record v { stage = Idle; epochs = [] }
+idled v = record v { stage = Idle; present = [] }
 
 -- the closing pass has cut, and has seen all
 abbrev pub cut_made : View → List Entry → View
-cut_made v seen = record v { seen = seen; reads = Resting; stage = after_cut v.stage }
+cut_made v seen = record v { seen = seen; reads = Resting; stage = after_cut v.stage; cuts = v.cuts ++ length seen ∷ [] }
 
 abbrev pub entering_tried : Step (Unit {0}) → Sat → ℕ → Sat → Type 0
 entering_tried st m r n = Tried st m r n (entered m.0) (noted m.0 (Gate r))

@@ -19,6 +19,7 @@ use Rattle.snap_steps.specs.States.{link_field}
 use Rattle.snap_steps.specs.Steps.Told.{Sat, Has}
 use Rattle.snap_steps.specs.Histories.{Enters}
 use Rattle.snap_model.specs.declared.call.Call.TheVariants as calls
+use Rattle.snap_steps.specs.Memory.{field}
 
 -- the word n in a row's value word: a put, or a removal where it is 0
 abbrev pub call_of : ℕ → ℕ → Call
@@ -46,7 +47,7 @@ pub record IsLeaf (v : View) (r a_key a_value : ℕ) : Type 0 where
   pub right : IsKnown v.wrote r Right 0
   pub birth : ℕ
   pub is_birth : IsKnown v.wrote r Birth birth
-  pub now : 0 < times birth v.epochs
+  pub now : 0 < times birth v.present
 
 -- the way of the key ends below the held row: its stamp is as the pass found it, and its link is 0
 pub record IsPlace (v : View) (key parent : ℕ) (f : Field) : Type 0 where

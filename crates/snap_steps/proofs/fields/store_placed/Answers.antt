@@ -11,7 +11,7 @@ use Rattle.snap_steps.proofs.fields.store_placed.Goals as goal
 pub store-requires : goal.store-requires
 store-requires g c =
     let low : c.args.row ≤ c.rows.inside.table.shared.key.rows = search rules in
-    let near : c.index_of-index.result < c.rows.inside.table.shared.table_id.words = word_within _ _ c.args.row c.rows.inside.rows c.args.field c.index_of-index.ensures (search rules) c.rows.invariant.0 in
+    let near : c.index_of-index.result < c.rows.inside.table.shared.table_id.words = word_within _ _ c.args.row c.rows.inside.rows c.args.field c.index_of-index.ensures (search rules) c.rows.invariant.words_are in
     let q = c.requires.place in (
       search rules,
       near,
