@@ -8,6 +8,7 @@
 mod changes;
 mod draws;
 mod fields;
+mod front;
 mod gate;
 mod header;
 mod locks;
@@ -22,6 +23,7 @@ mod writes;
 pub use changes::mark_shrinking;
 pub use draws::{Full, draw, try_draw};
 pub use fields::{load_key, load_word, store_key, store_own};
+pub use front::{Front, close_rows};
 pub use gate::{count_left, cut, open_gate, try_close, try_enter};
 pub use header::{load_done, load_epoch, load_gate, load_left, load_next};
 pub use locks::{free_lock, try_lock};

@@ -77,8 +77,10 @@ pub fn finish(_rows: &Rows, pass: Pass) -> Receipt
         seat,
         who: _,
         uses: _,
+        added,
+        taken,
     } = pass;
-    Receipt { seat }
+    Receipt { seat, added, taken }
 }
 
 /// The pass learns what the receipt's had seen and noted, and speaks for its number, and for each number that it
@@ -88,9 +90,11 @@ pub fn admit(rows: &Rows, pass: &mut Pass, receipt: Receipt)
     requires receipt { receipt.table ≡ pass.old.table }
     ensures { (seen : _) × Extends pass.old.view seen × Begins receipt.view.seen seen × Becomes pass.old pass.new (with_admitted (heard pass.old.view receipt.view seen) receipt.view) }
 {
-    let Receipt { seat } = receipt;
+    let Receipt { seat, added, taken } = receipt;
     rows.table
         .shared
         .join_seat::<JoinReceipt>(&mut pass.seat, seat);
     rows.table.shared.load::<Sure>(&mut pass.seat, 0);
+    pass.added = pass.added.wrapping_add(added);
+    pass.taken = pass.taken.wrapping_add(taken);
 }

@@ -8,6 +8,7 @@ ghost use Rattle.snap_stamp.specs.declared.layout.Field.TheVariants.{Key, Value}
 ghost use Rattle.snap_steps.specs.Counting.{times};
 ghost use Rattle.snap_steps.specs.Facts.{IsKnown, IsBorn};
 ghost use Rattle.snap_steps.specs.Histories.{Enters};
+ghost use Rattle.snap_steps.specs.Pairs.{added_by, taken_by};
 ghost use Rattle.snap_steps.specs.Seen.{IsOf, Becomes};
 ghost use Rattle.snap_steps.specs.States.{link_field};
 ghost use Rattle.snap_steps.specs.Steps.Writes.{call_of, entry, stored, made_entry, hung, counted_one, IsLeaf, IsPlace, value_stored, absent_confirmed, leaf_hung, done_counted};
@@ -93,9 +94,29 @@ pub fn store_value(rows: &Rows, pass: &mut Pass, row: RowNo, key: Key, new: u64)
     ensures entry { (log : _) × Enters pass.old.view log (entry pass.old.view.who (call_of key new) (value_of result)) × Becomes pass.old pass.new (stored pass.old.view log (entry pass.old.view.who (call_of key new) (value_of result)) row new) }
 {
     let word = index_of(row, Field::Value);
-    rows.table
+    let was = rows
+        .table
         .shared
-        .swap::<StoreValue>(&mut pass.seat, word, new)
+        .swap::<StoreValue>(&mut pass.seat, word, new);
+    pass.added = pass.added.wrapping_add(pairs_added(key, was, new));
+    pass.taken = pass.taken.wrapping_add(pairs_taken(key, was, new));
+    was
+}
+
+// How many pairs a value word adds to the map in the place of another.
+fn pairs_added(key: Key, was: u64, new: u64) -> u64
+    ensures { result ≡ added_by (call_of key new) (value_of was) }
+{
+    let _key = key;
+    if was == 0 && new > 0 { 1 } else { 0 }
+}
+
+// How many it takes out.
+fn pairs_taken(key: Key, was: u64, new: u64) -> u64
+    ensures { result ≡ taken_by (call_of key new) (value_of was) }
+{
+    let _key = key;
+    if was > 0 && new == 0 { 1 } else { 0 }
 }
 
 fn confirm_keyed<J: Saying>(rows: &Rows, pass: &mut Pass, row: RowNo, key: Key)
@@ -163,6 +184,7 @@ fn link_placed<J: Leaf>(
     rows.table
         .shared
         .store::<LinkLeaf<J>>(&mut pass.seat, word, row.number() as u64);
+    pass.added = pass.added.wrapping_add(1);
 }
 
 /// Links a row of the pass, which is a leaf with the key and the value, below the held row at which its way ends.

@@ -5,7 +5,7 @@ use Rattle.atomic_table.specs.Table.{step, Allows}
 use Rattle.snap_steps.proofs.Classes.Turning.{Rule}
 use Rattle.snap_steps.specs.Steps.Locks.{locked, missed, locking_tried}
 use Rattle.snap_steps.specs.declared.view.View.{View}
-use Rattle.snap_steps.proofs.Passing.{stays_pass, becomes}
+use Rattle.snap_steps.proofs.Passing.{stays_pass, same_pairs, becomes}
 use Rattle.snap_steps.proofs.Cells.{word_within}
 use Rattle.snap_stamp.specs.declared.layout.Field.TheVariants.{Lock}
 use Rattle.snap_steps.proofs.Keeps.Locks.{locks}
@@ -26,8 +26,8 @@ compare_exchange-found-requires c =
 pub invariant_of-pass : goal.invariant_of-pass
 invariant_of-pass c = let t = c.compare_exchange-found.ensures.2 c.args.row c.index_of-word.ensures in let m = c.pass.inside.seat.me in
     elim c.if-found-eq0.branch [
-      | then-found-eq0 w ↦ stays_pass m c.compare_exchange-found.new.seat.me (locked m.0 c.args.row) c.pass.inside.who c.pass.inside.uses c.pass.invariant (t.0 w.if-found-eq0.true) refl refl refl refl
-      | else-found-eq0 w ↦ stays_pass m c.compare_exchange-found.new.seat.me (missed m.0) c.pass.inside.who c.pass.inside.uses c.pass.invariant (t.1 w.if-found-eq0.false) refl refl refl refl
+      | then-found-eq0 w ↦ stays_pass m c.compare_exchange-found.new.seat.me (locked m.0 c.args.row) c.pass.inside.who c.pass.inside.uses c.pass.inside.added c.pass.inside.taken c.pass.inside.added c.pass.inside.taken c.pass.invariant (t.0 w.if-found-eq0.true) refl refl refl refl (same_pairs c.pass.inside.seat.me.0 (locked m.0 c.args.row) c.pass.inside.added c.pass.inside.taken refl refl c.pass.invariant.pairs)
+      | else-found-eq0 w ↦ stays_pass m c.compare_exchange-found.new.seat.me (missed m.0) c.pass.inside.who c.pass.inside.uses c.pass.inside.added c.pass.inside.taken c.pass.inside.added c.pass.inside.taken c.pass.invariant (t.1 w.if-found-eq0.false) refl refl refl refl (same_pairs c.pass.inside.seat.me.0 (missed m.0) c.pass.inside.added c.pass.inside.taken refl refl c.pass.invariant.pairs)
     ]
 
 pub returns : goal.returns

@@ -7,6 +7,12 @@ use Rattle.snap_stamp.specs.declared.layout.Field.{Field}
 use Rattle.snap_steps.proofs.Classes.Turning.{Rule}
 use Rattle.snap_steps.proofs.Cells.{word_within}
 use Rattle.snap_steps.proofs.Keeps.Leaf.{links_leaf}
+use Rattle.std.proofs.Common.{None, refl, ◌+◌, ◌%◌}
+use Rattle.snap_steps.proofs.Passing.{stays_pass, pair_added}
+use Rattle.snap_steps.specs.declared.view.View.{View}
+use Rattle.snap_steps.specs.Steps.Writes.{hung, entry}
+use Rattle.snap_model.specs.declared.call.Call.TheVariants.{Put}
+use Rattle.snap_model.specs.declared.call.Entry.{Entry}
 use Rattle.snap_steps.proofs.writes.link_placed.Goals as goal
 
 pub store-requires : goal.store-requires
@@ -27,3 +33,9 @@ store-requires g c =
           (subst (λ (x : ℕ). IsLeaf c.pass.inside.seat.me.0 c.args.row x g.J.Leaf.value) key (subst (λ (x : ℕ). IsLeaf c.pass.inside.seat.me.0 c.args.row c.args.key x) value made))
           (subst (λ (x : Field). IsPlace c.pass.inside.seat.me.0 g.J.Leaf.key g.J.Leaf.below x) by_field (subst (λ (x : ℕ). IsPlace c.pass.inside.seat.me.0 g.J.Leaf.key x c.args.field) below (subst (λ (x : ℕ). IsPlace c.pass.inside.seat.me.0 x c.args.parent c.args.field) key place))) (search rules))),
     )
+
+pub invariant_of-pass : goal.invariant_of-pass
+invariant_of-pass g c =
+    let t = c.store.ensures.2 in let m = c.pass.inside.seat.me in let e : Entry = entry m.0.who (Put g.J.Leaf.key g.J.Leaf.value) None in let v : View = hung m.0 t.0 e g.J.Leaf.below g.J.Leaf.by_field c.number.result in
+    stays_pass m c.store.new.seat.me v c.pass.inside.who c.pass.inside.uses c.pass.inside.added c.pass.inside.taken ((c.pass.inside.added + 1) % 2 ^ 64) c.pass.inside.taken c.pass.invariant t.2 refl refl refl refl
+    (pair_added m.0 v e c.pass.inside.added c.pass.inside.taken refl refl refl refl c.pass.invariant.pairs)
