@@ -33,3 +33,6 @@ pub use seats::{admit, finish, learn, note};
 pub use view::{Admitted, Fact, HeaderNote, Role, Stage, View};
 pub use way::{load_last_word, load_next_word, set_out};
 pub use writes::{confirm_absent, count_done, link_leaf, store_value};
+
+#[cfg(test)]
+mod tests;
