@@ -1,10 +1,9 @@
 -- Waiting at the gate: one note more, and the moment at which a closing pass knows that no write is in progress.
-use Rattle.std.proofs.Common.{◌≡◌, ◌≢◌, ℕ, ◌+◌, ◌/◌, ◌==◌, ◌||◌, Bool, true, false, List, [], ◌∷◌, ◌++◌, refl, sym, ap, ◌∙◌, append_assoc, eq-eqb, ne_eqb}
+use Rattle.std.proofs.Common.{◌≡◌, ◌≢◌, ℕ, ◌/◌, Bool, true, false, List, [], ◌∷◌, ◌++◌, sym, ap, ◌∙◌, append_assoc, eq-eqb, ne_eqb}
 use Rattle.snap_epoch.specs.Waits.{IsOfGate, AreOfGate, waited, quieted, HasWaited, HasShut, HasQuieted, HasClosed}
 use Rattle.snap_steps.specs.Seen.{Known, Becomes}
 use Rattle.snap_steps.specs.Stages.{after_left}
-use Rattle.snap_steps.specs.Steps.Gate.{closed}
-use Rattle.snap_steps.specs.Steps.Header.{noted, left_seen}
+use Rattle.snap_steps.specs.Steps.Header.{left_seen}
 use Rattle.snap_steps.specs.declared.view.HeaderNote.{HeaderNote}
 use Rattle.snap_steps.specs.declared.view.HeaderNote.TheVariants.{Left}
 use Rattle.snap_steps.specs.declared.view.Stage.{Stage}

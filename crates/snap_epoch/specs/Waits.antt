@@ -1,5 +1,5 @@
 -- What entering a write and closing the gate leave behind: beside their effect, notes of the words at which they waited.
-use Rattle.std.specs.Prelude.{◌≡◌, ℕ, ◌+◌, true, false, List, [], ◌∷◌, ◌++◌}
+use Rattle.std.specs.Prelude.{ℕ, ◌+◌, true, false, List, [], ◌∷◌, ◌++◌}
 use Rattle.snap_steps.specs.Seen.{Known, Becomes}
 use Rattle.snap_steps.specs.Steps.Gate.{entered, closed}
 use Rattle.snap_steps.specs.declared.view.HeaderNote.{HeaderNote}

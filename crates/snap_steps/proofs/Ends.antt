@@ -5,10 +5,10 @@ use mathlib.Core.Logic.{dite}
 use mathlib.Core.Option.{some, some-injective, some-ne-none}
 use native.Mathlib.Decide.{ℕ_discrete, dec_le}
 use lib.ListN.{get_elem?}
-use Rattle.snap_model.specs.History.{IsLegal, after, calls_of}
+use Rattle.snap_model.specs.History.{IsLegal, calls_of}
 use Rattle.snap_model.specs.declared.call.Entry.{Entry}
 use Rattle.snap_steps.specs.Counting.{total, times, one_if}
-use Rattle.snap_steps.specs.Ending.{Ended, SpeaksForAll, IsLastState, KnowsAll, Closes}
+use Rattle.snap_steps.specs.Ending.{Ended, SpeaksForAll, KnowsAll, Closes}
 use Rattle.snap_steps.specs.Numbers.{numbers, numbers_of, all_cuts}
 use Rattle.snap_steps.specs.Pairs.{adds, takes, kept_sum}
 use Rattle.snap_steps.specs.Roles.{own_number, is_counted, is_live}

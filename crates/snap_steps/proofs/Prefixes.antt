@@ -1,5 +1,5 @@
 -- Prefixes of lists.
-use Rattle.std.proofs.Common.{List, [], append-nil, ◌+◌, ◌++◌, sym, ap, ◌∙◌, append_assoc, ◌≤◌, length, arith, length-append, ◌≡◌, ◌∷◌, refl}
+use Rattle.std.proofs.Common.{List, [], append-nil, ◌++◌, sym, ap, ◌∙◌, append_assoc, ◌≤◌, length, arith, length-append, ◌≡◌, ◌∷◌, refl}
 use Rattle.snap_model.specs.History.{Begins}
 
 module _ {A : Type 0} where

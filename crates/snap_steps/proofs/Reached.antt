@@ -1,5 +1,5 @@
 -- Rows that were linked, and where a link leads.
-use Rattle.std.proofs.Common.{ℕ, List, [], ◌∷◌, ◌<◌, sym, subst, arith, ◌+◌, ◌++◌, ◌≡◌, ◌⊎◌, true, cond, nat_lt, ◌==◌, inl, inr, eqb-true}
+use Rattle.std.proofs.Common.{ℕ, List, [], ◌∷◌, ◌<◌, sym, subst, arith, ◌++◌, ◌≡◌, ◌⊎◌, true, cond, nat_lt, ◌==◌, inl, inr, eqb-true}
 use Rattle.std.proofs.lemmas.Bool.{cond_both}
 use Rattle.std.proofs.lemmas.Bool.Decides.{nat_tests}
 use mathlib.Core.Logic.{dite}

@@ -1,5 +1,5 @@
 -- Histories that a step extends.
-use Rattle.std.specs.Prelude.{nat_lt, cond, List, length, ◌≡◌, ◌+◌, [], ◌∷◌, ◌++◌}
+use Rattle.std.specs.Prelude.{nat_lt, cond, List, length, ◌≡◌, [], ◌∷◌, ◌++◌}
 use Rattle.snap_model.specs.History.{IsLegal, Begins, calls_of}
 use Rattle.snap_model.specs.declared.call.Entry.{Entry}
 use Rattle.snap_steps.specs.declared.view.View.{View}

@@ -1,7 +1,7 @@
 -- Two seats that are joined.
 use Rattle.std.proofs.Common.{◌≡◌, ℕ, ◌+◌, ◌<◌, ◌≤◌, List, [], ◌∷◌, length, set, sym, refl, ap, ◌∙◌, subst, arith, false, true}
 use lib.ListN.{get_elem?}
-use mathlib.Core.Option.{none, some}
+use mathlib.Core.Option.{some}
 use Rattle.snap_model.specs.History.{Begins, calls_of}
 use Rattle.snap_rule.specs.Doing.{Concerns, DoingOk}
 use Rattle.snap_rule.specs.Views.{ReadingOk}
@@ -12,7 +12,7 @@ use Rattle.snap_steps.specs.Rule.Changes.{changing}
 use Rattle.snap_steps.specs.Roles.{gone, is_counted, is_live, is_opening}
 use Rattle.snap_steps.specs.Numbers.{all_uses, all_cuts}
 use Rattle.snap_steps.specs.Stages.{in_write, is_closing, is_quiet, may_cut, owes_count, has_counted}
-use Rattle.snap_steps.specs.Rule.Notes.{AreTrueNotes, KnowsHeader}
+use Rattle.snap_steps.specs.Rule.Notes.{KnowsHeader}
 use Rattle.snap_steps.specs.Rule.Gate.{IsAt}
 use Rattle.snap_steps.specs.Rule.Uses.{HasFewUses}
 use Rattle.snap_steps.specs.Rule.Names.{names}

@@ -8,10 +8,9 @@ use Rattle.snap_stamp.specs.declared.layout.Field.TheVariants.{Lock}
 use Rattle.snap_steps.specs.Counting.{times}
 use Rattle.snap_steps.specs.Memory.{Row, with_field, row}
 use Rattle.snap_steps.specs.Rule.Changes.{changing, HoldsIts}
-use Rattle.snap_steps.specs.Steps.Locks.{locked}
 use Rattle.snap_steps.specs.Stages.{in_write, owes_count, has_counted}
 use Rattle.snap_steps.specs.Each.{Each}
-use Rattle.snap_steps.specs.Rule.Notes.{AreTrueNotes, KnowsHeader}
+use Rattle.snap_steps.specs.Rule.Notes.{KnowsHeader}
 use Rattle.snap_steps.specs.Rule.Locks.{AreLocked, KnowsRows}
 use Rattle.snap_steps.specs.Rule.Ways.{AllLinked, IsOnWay}
 use Rattle.snap_steps.specs.Rule.Epochs.{KnowsEpoch}

@@ -15,7 +15,7 @@ use Rattle.snap_steps.specs.Rule.Changes.{changing, HoldsIts}
 use Rattle.snap_steps.specs.Stages.{in_write, owes_count, has_counted}
 use Rattle.snap_steps.specs.Rule.Words.{IsMemory, KnowsAbout}
 use Rattle.snap_steps.specs.Each.{Each}
-use Rattle.snap_steps.specs.Rule.Notes.{AreTrueNotes, KnowsHeader}
+use Rattle.snap_steps.specs.Rule.Notes.{KnowsHeader}
 use Rattle.snap_steps.specs.Rule.Locks.{AreLocked, KnowsRows}
 use Rattle.snap_steps.specs.Rule.Ways.{AllLinked, IsOnWay}
 use Rattle.snap_steps.specs.Rule.Epochs.{KnowsEpoch}

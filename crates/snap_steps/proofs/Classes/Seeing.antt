@@ -1,7 +1,7 @@
 -- Steps that write no word, after which a pass knows or has seen more.
-use Rattle.std.proofs.Common.{◌≡◌, ℕ, ◌+◌, ◌<◌, List, ◌++◌, get_or, set, sym, ap, ◌∙◌, subst, arith}
+use Rattle.std.proofs.Common.{◌≡◌, ℕ, ◌<◌, List, ◌++◌, get_or, set, sym, ap, ◌∙◌, subst, arith}
 use lib.ListN.{get_elem?}
-use mathlib.Core.Option.{none, some}
+use mathlib.Core.Option.{some}
 use Rattle.snap_model.specs.History.{Begins, calls_of}
 use Rattle.snap_rule.specs.Doing.{Concerns, DoingOk}
 use Rattle.snap_steps.specs.Counting.{times}
@@ -9,7 +9,7 @@ use Rattle.snap_steps.specs.Rule.Changes.{changing, HoldsIts}
 use Rattle.snap_steps.specs.Numbers.{numbers, numbers_of}
 use Rattle.snap_steps.specs.Roles.{own_number, is_counted}
 use Rattle.snap_steps.specs.Stages.{in_write, owes_count, has_counted}
-use Rattle.snap_steps.specs.Rule.Notes.{AreTrueNotes, KnowsHeader}
+use Rattle.snap_steps.specs.Rule.Notes.{KnowsHeader}
 use Rattle.snap_steps.specs.Rule.Names.{names, ActsAsPass}
 use Rattle.snap_steps.specs.Rule.History.{AllBegin, AreTheirs, IsIn, IsTrueOf, whole}
 use Rattle.snap_steps.specs.Facts.{AreFacts}

@@ -1,8 +1,8 @@
 -- Steps on a pass's turn at the gate, its notes, and the words that count writes.
-use Rattle.std.proofs.Common.{◌≡◌, ℕ, ◌+◌, ◌-◌, ◌/◌, ◌≤◌, List, [], set, sym, refl, subst, arith, ◌∷◌, ◌++◌, get_or}
+use Rattle.std.proofs.Common.{◌≡◌, ℕ, ◌+◌, ◌/◌, ◌≤◌, List, [], set, sym, refl, subst, arith, ◌∷◌, ◌++◌, get_or}
 use lib.ListN.{get_elem?}
-use mathlib.Core.Option.{none, some}
-use Rattle.atomic_table.specs.Table.{State, Me}
+use mathlib.Core.Option.{some}
+use Rattle.atomic_table.specs.Table.{State}
 use Rattle.snap_rule.specs.Doing.{DoingOk}
 use Rattle.snap_rule.specs.WordKinds.{MayCount}
 use Rattle.snap_steps.specs.declared.view.View.{View}
@@ -14,7 +14,7 @@ use Rattle.snap_steps.specs.Rule.Changes.{changing, HoldsIts}
 use Rattle.snap_steps.specs.Stages.{in_write, owes_count, has_counted}
 use Rattle.snap_steps.specs.Rule.Apart.{AreApart}
 use Rattle.snap_steps.specs.Each.{Each}
-use Rattle.snap_steps.specs.Rule.Notes.{AreTrueNotes, IsTrueNote, IsTrueOfHeader}
+use Rattle.snap_steps.specs.Rule.Notes.{IsTrueNote, IsTrueOfHeader}
 use Rattle.snap_steps.specs.Rule.Words.{IsMemory, KnowsAbout}
 use Rattle.snap_steps.specs.Rule.Gate.{IsGated}
 use Rattle.snap_steps.specs.Rule.Uses.{AreUsed}
@@ -27,7 +27,7 @@ use Rattle.snap_steps.specs.declared.view.HeaderNote.{HeaderNote}
 use Rattle.snap_steps.specs.declared.view.Stage.{Stage}
 use Rattle.snap_steps.proofs.EachView.{each_set, each_stays}
 use Rattle.snap_steps.proofs.Totals.{total-set}
-use Rattle.snap_steps.proofs.Notes.{notes_later, notes_more, header_later, header_more}
+use Rattle.snap_steps.proofs.Notes.{header_later, header_more}
 use Rattle.snap_steps.proofs.Parts.Apart.{apart_stays}
 use Rattle.snap_steps.proofs.Parts.Drawn.{drawn_stays}
 use Rattle.snap_steps.proofs.Parts.Names.{named_stays}

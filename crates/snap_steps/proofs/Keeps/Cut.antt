@@ -30,7 +30,7 @@ use Rattle.snap_steps.specs.declared.view.Stage.TheVariants.{Closing}
 use Rattle.snap_steps.specs.declared.rule.About.{About}
 use Rattle.snap_steps.proofs.EachView.{each_set, none_total, each_stays, each_others}
 use Rattle.snap_steps.proofs.Totals.{total-set, term_le}
-use Rattle.snap_steps.proofs.Notes.{notes_later, header_later}
+use Rattle.snap_steps.proofs.Notes.{header_later}
 use Rattle.snap_steps.proofs.Prefixes.{begins_itself, begins_length}
 use Rattle.snap_steps.proofs.Memories.{epoch_is, epoch_set}
 use Rattle.snap_steps.proofs.Tables.{ways_evolve, doings_stay, none_changing}
@@ -48,7 +48,6 @@ use Rattle.snap_rule.specs.CloneKinds as clone_kinds
 use Rattle.snap_steps.specs.Rule.Worn.{KnowsWorn}
 use Rattle.snap_steps.proofs.Parts.Worn.{worns_evolve}
 use Rattle.snap_steps.specs.Numbers.{all_cuts}
-use Rattle.snap_steps.specs.Steps.Way.{goes_on}
 
 -- K14
 pub cuts : (about : About) (slots id : ℕ) (me : Sat) (gate : ℕ) → me.0.role ≡ Passing → me.0.joined ≡ [] → me.0.stage ≡ Closing gate true false → Allows (Rule about) slots id me 4 (λ n. (n + 1) % 2 ^ 64) (cut_told (step slots 4 1 0 maybe.none) me)

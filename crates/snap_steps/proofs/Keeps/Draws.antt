@@ -1,7 +1,7 @@
 -- A try to draw keeps the rule.
-use Rattle.std.proofs.Common.{◌≡◌, ℕ, ◌+◌, ◌-◌, ◌<◌, eqb, [], ◌∷◌, ◌++◌, get_or, set, sym, refl, ap, subst, arith}
+use Rattle.std.proofs.Common.{◌≡◌, ℕ, ◌+◌, ◌<◌, eqb, [], ◌∷◌, ◌++◌, get_or, set, sym, refl, ap, subst, arith}
 use mathlib.Core.Logic.{dite}
-use mathlib.Core.Option.{Option, none}
+use mathlib.Core.Option.{Option}
 use native.Mathlib.Decide.{ℕ_discrete}
 use prog.Atomic.{either}
 use Rattle.atomic_table.proofs.Lists.{exchanged}
@@ -26,7 +26,7 @@ use Rattle.snap_steps.specs.declared.view.Role.TheVariants.{Passing}
 use Rattle.snap_steps.specs.declared.rule.About.{About}
 use Rattle.snap_steps.proofs.EachView.{each_set, each_stays}
 use Rattle.snap_steps.proofs.Totals.{one_other, one_same, times-append, total-set}
-use Rattle.snap_steps.proofs.Notes.{notes_later, header_later}
+use Rattle.snap_steps.proofs.Notes.{header_later}
 use Rattle.snap_steps.proofs.Memories.{next_is, next_set}
 use Rattle.snap_steps.proofs.Parts.Apart.{apart_stays}
 use Rattle.snap_steps.proofs.Knowing.{facts_more}

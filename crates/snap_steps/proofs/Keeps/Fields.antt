@@ -1,5 +1,5 @@
 -- Loads of a row's words and stores in own rows keep the rule.
-use Rattle.std.proofs.Common.{◌≡◌, ℕ, ◌≤◌, nat_lt, ◌∷◌, get_or, sym, refl, ◌∙◌, arith, ◌≢◌, ◌<◌, length, ap, ⊎_elim, ◌⊎◌}
+use Rattle.std.proofs.Common.{◌≡◌, ℕ, ◌≤◌, nat_lt, ◌∷◌, get_or, sym, refl, ◌∙◌, arith, ◌≢◌, ◌<◌, length, ap, ⊎_elim}
 use Rattle.std.proofs.lemmas.Bool.{cond_both}
 use Rattle.std.proofs.lemmas.Bool.Decides.{nat_tests}
 use lib.ListN.{get_elem?}
@@ -27,10 +27,9 @@ use Rattle.snap_steps.proofs.Classes.Turning.{Rule}
 use Rattle.snap_steps.specs.Steps.Told.{Sat}
 use Rattle.snap_steps.proofs.Classes.Seeing.{seeing}
 use Rattle.snap_steps.specs.Rule.Changes.{changing, HoldsIts}
-use Rattle.snap_steps.specs.Steps.Locks.{locked}
 use Rattle.snap_steps.specs.Stages.{in_write, owes_count, has_counted}
 use Rattle.snap_steps.specs.Rule.Apart.{IsOwn}
-use Rattle.snap_steps.specs.Rule.Notes.{AreTrueNotes, KnowsHeader}
+use Rattle.snap_steps.specs.Rule.Notes.{KnowsHeader}
 use Rattle.snap_steps.specs.Rule.Ways.{AllLinked, IsOnWay}
 use Rattle.snap_steps.specs.Rule.Epochs.{KnowsEpoch}
 use Rattle.snap_steps.specs.Rule.Words.{KnowsAbout}

@@ -1,7 +1,7 @@
 -- Loads of the header keep the rule.
-use Rattle.std.proofs.Common.{◌≡◌, ℕ, get_or, refl, ap, arith, ◌+◌, ◌-◌, ◌/◌, ◌<◌, ⊎_elim, [], ◌∷◌, ◌++◌, set, sym, subst, ◌⊎◌}
+use Rattle.std.proofs.Common.{◌≡◌, ℕ, get_or, refl, ap, arith, ◌/◌, ◌<◌, ⊎_elim, [], ◌∷◌, ◌++◌, set, sym, subst}
 use mathlib.Core.Logic.{dite}
-use mathlib.Core.Option.{none, some}
+use mathlib.Core.Option.{none}
 use native.Mathlib.Decide.{dec_le}
 use Rattle.atomic_table.specs.Table.{step, keeps, Allows}
 use Rattle.snap_steps.specs.Steps.Header.{noted, next_loaded, gate_loaded, left_seen, left_loaded, saw, done_loaded, epoch_noted, epoch_loaded}
@@ -17,7 +17,7 @@ use Rattle.snap_steps.specs.Stages.{after_left, in_write, is_closing, is_quiet}
 use Rattle.snap_steps.specs.Rule.Gate.{IsAt}
 use Rattle.snap_steps.specs.declared.view.View.{View}
 use Rattle.snap_steps.proofs.Totals.{term_le, total-set}
-use Rattle.snap_steps.proofs.Notes.{notes_more, header_more}
+use Rattle.snap_steps.proofs.Notes.{header_more}
 use Rattle.snap_steps.proofs.EachView.{each_stays}
 use Rattle.snap_steps.proofs.Parts.Uses.{used_moves}
 use Rattle.snap_steps.proofs.Parts.Gate.{gated_moves, after_left_counts, after_left_at, after_left_quiet}
@@ -25,7 +25,6 @@ use Rattle.snap_steps.specs.Rule.History.{AllBegin}
 use Rattle.snap_steps.proofs.Prefixes.{begins_itself}
 use Rattle.snap_steps.proofs.Classes.Seeing.{seeing}
 use Rattle.snap_steps.proofs.Parts.Epochs.{epoch_with}
-use Rattle.snap_steps.specs.Steps.Way.{goes_on}
 
 pub loads_next : (about : About) (slots id : ℕ) (me : Sat) → me.0.role ≡ Passing → Allows (Rule about) slots id me 0 (λ n. n) (next_loaded (step slots 0 0 0 none) me)
 loads_next about slots id me passing s k wide at small = let is = next_is k.memory in let room = k.memory.room in let a = (k.about_known id me.0 at (ap is_live passing)).0 in (

@@ -1,5 +1,5 @@
 -- Linking a leaf keeps the rule.
-use Rattle.std.proofs.Common.{◌≢◌, ◌≡◌, ℕ, refl, ◌⊎◌, inl, inr, List, subst, false, suc, ◌+◌, ◌^◌, ◌<◌, ◌≤◌, [], ◌∷◌, ◌++◌, length, set, sym, ap, ◌∙◌, arith, None}
+use Rattle.std.proofs.Common.{◌≢◌, ◌≡◌, ℕ, refl, ◌⊎◌, inl, inr, List, subst, false, suc, ◌^◌, ◌<◌, ◌≤◌, [], ◌∷◌, ◌++◌, length, set, sym, ap, ◌∙◌, arith, None}
 use lib.ListN.{get_elem?}
 use mathlib.Core.Logic.{dite}
 use mathlib.Core.Option.{some, some-injective}
@@ -61,7 +61,6 @@ use mathlib.Core.Option as maybe
 use Rattle.snap_rule.specs.EntryKinds as entry_kinds
 use Rattle.snap_rule.specs.TreeChanges as tree_changes
 use Rattle.snap_steps.specs.Rule.History.{whole}
-use Rattle.snap_steps.specs.Steps.Way.{goes_on}
 
 no_lock : (d : Side) → link_field d ≢ Lock
 no_lock sides.Left = λ e. cc

@@ -1,5 +1,5 @@
 -- Taking a note, learning and admitting keep the rule.
-use Rattle.std.proofs.Common.{◌≡◌, ℕ, ◌+◌, List, [], ◌∷◌, ◌++◌, sym, ap, subst, refl, arith, length, ◌∙◌, ⊎_elim, ◌⊎◌}
+use Rattle.std.proofs.Common.{◌≡◌, ℕ, ◌+◌, List, [], ◌∷◌, ◌++◌, sym, ap, subst, refl, arith, length, ◌∙◌, ⊎_elim}
 use mathlib.Core.Option.{none}
 use Rattle.atomic_table.proofs.Lists.{set_again}
 use Rattle.atomic_table.specs.Table.{Splits, Joins, step, keeps, Allows}

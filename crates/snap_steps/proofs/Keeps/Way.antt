@@ -32,7 +32,7 @@ use Rattle.snap_steps.specs.declared.view.HeaderNote.TheVariants.{Done}
 use Rattle.snap_steps.specs.declared.view.Role.TheVariants.{Passing}
 use Rattle.snap_steps.specs.declared.rule.About.{About}
 use Rattle.snap_steps.proofs.Prefixes.{begins_itself}
-use Rattle.snap_steps.proofs.Notes.{notes_more, header_more}
+use Rattle.snap_steps.proofs.Notes.{header_more}
 use Rattle.snap_steps.proofs.Memories.{done_is}
 use Rattle.snap_steps.proofs.Classes.Turning.{Rule}
 use Rattle.snap_steps.specs.Steps.Told.{Sat}

@@ -40,7 +40,6 @@ use Rattle.snap_steps.specs.Steps.Told.{Sat}
 use Rattle.snap_steps.proofs.Classes.Entering.{entering, key_made, value_made, value_is, some_write, born_live}
 use Rattle.snap_steps.specs.Rule.Locks.{KnowsRows}
 use Rattle.snap_steps.proofs.Memories.{loaded, done_is, done_set}
-use Rattle.snap_steps.specs.Steps.Locks.{locked}
 use Rattle.snap_steps.specs.Rule.Gate.{IsAt}
 use Rattle.snap_steps.proofs.Parts.Counts.{counted_writes}
 use Rattle.snap_steps.proofs.Parts.Uses.{gate_small, used_moves}
@@ -48,7 +47,6 @@ use Rattle.snap_steps.proofs.Parts.Gate.{gated_moves}
 use mathlib.Core.Option as maybe
 use Rattle.snap_rule.specs.EntryKinds as entry_kinds
 use Rattle.snap_rule.specs.TreeChanges as tree_changes
-use Rattle.snap_steps.specs.Steps.Way.{goes_on}
 
 -- K8
 pub stores : (about : About) (slots id : ℕ) (me : Sat) (r key new : ℕ) → r ≤ about.rows → me.0.role ≡ Passing → me.0.stage ≡ Writing false false → 0 < times r me.0.holds → 0 < times r me.0.reached → IsKnown me.0.knows r Key key → IsBorn me.0 r

@@ -7,7 +7,7 @@ use native.Mathlib.Decide.{ℕ_discrete}
 use Rattle.atomic_table.proofs.Lists.{set_here}
 use Rattle.snap_model.specs.History.{Begins, calls_of, told, call_key}
 use Rattle.snap_model.specs.declared.call.Entry.{Entry}
-use Rattle.snap_steps.specs.Counting.{times, one_if, total}
+use Rattle.snap_steps.specs.Counting.{times, total}
 use Rattle.snap_steps.specs.Rule.Names.{names}
 use Rattle.snap_steps.specs.Rule.History.{AllBegin, AreTheirs, IsIn, IsTrueOf, whole, IsHistory, saw_all}
 use Rattle.snap_steps.specs.Roles.{is_counted, own_number, is_opening}

@@ -10,7 +10,6 @@ use Rattle.snap_steps.specs.Numbers.{numbers_of, numbers}
 use Rattle.snap_steps.specs.declared.view.View.{View}
 use Rattle.snap_steps.proofs.Totals.{total-set}
 use Rattle.snap_steps.proofs.EachView.{each_set}
-use Rattle.snap_steps.proofs.Parts.Uses.{below}
 use Rattle.snap_steps.specs.declared.view.Admitted.{Admitted}
 
 module _ (views : List View) (id : ℕ) (v w : View) (at : get_elem? views id ≡ some v) where

@@ -4,7 +4,6 @@ use Rattle.snap_rule.specs.Doing.{Concerns}
 use Rattle.snap_rule.specs.declared.change.Doing.{Doing}
 use Rattle.snap_rule.specs.declared.change.Doing.TheVariants.{Nothing, Unlinked, Shrunk, Lowered, Lifted, Turned}
 use Rattle.snap_stamp.specs.Sides.{other}
-use Rattle.snap_stamp.specs.declared.layout.Field.TheVariants.{Left, Right}
 use Rattle.snap_stamp.specs.declared.side.Side.{Side}
 use Rattle.snap_steps.specs.Counting.{one_if, times}
 use Rattle.snap_steps.specs.declared.view.View.{View}

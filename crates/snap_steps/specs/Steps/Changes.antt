@@ -2,7 +2,7 @@
 use Rattle.std.specs.Prelude.{◌≡◌, ◌≢◌, ◌⊎◌, ℕ, ◌<◌, ◌+◌, ◌∷◌}
 use Rattle.atomic_table.specs.Table.{Step}
 use Rattle.snap_rule.specs.declared.change.Doing.TheVariants.{Shrunk}
-use Rattle.snap_stamp.specs.declared.layout.Field.TheVariants.{Right, Stamp}
+use Rattle.snap_stamp.specs.declared.layout.Field.TheVariants.{Stamp}
 use Rattle.snap_stamp.specs.declared.side.Side.{Side}
 use Rattle.snap_steps.specs.declared.view.View.{View}
 use Rattle.snap_steps.specs.Counting.{times}

@@ -1,9 +1,8 @@
 -- Loads of the header.
-use Rattle.std.specs.Prelude.{◌+◌, [], ◌∷◌, ◌++◌, List, ℕ, ◌≤◌, length, max}
+use Rattle.std.specs.Prelude.{[], ◌∷◌, ◌++◌, List, ℕ, ◌≤◌, length, max}
 use Rattle.atomic_table.specs.Table.{Step}
 use Rattle.snap_model.specs.declared.call.Entry.{Entry}
 use Rattle.snap_rule.specs.declared.reader.Reading.TheVariants.{Resting}
-use Rattle.snap_stamp.specs.declared.layout.Field.TheVariants.{Left}
 use Rattle.snap_steps.specs.declared.view.View.{View}
 use Rattle.snap_steps.specs.declared.view.HeaderNote.{HeaderNote}
 use Rattle.snap_steps.specs.Stages.{with_epoch, after_left}

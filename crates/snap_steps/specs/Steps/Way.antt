@@ -9,7 +9,7 @@ use Rattle.snap_rule.specs.declared.reader.Point.TheVariants.{Standing, NoLink, 
 use Rattle.snap_rule.specs.declared.reader.Reading.{Reading}
 use Rattle.snap_rule.specs.declared.reader.Reading.TheVariants.{On, Resting}
 use Rattle.snap_stamp.specs.declared.layout.Field.{Field}
-use Rattle.snap_stamp.specs.declared.layout.Field.TheVariants.{Right, Left, Key, Stamp, Value}
+use Rattle.snap_stamp.specs.declared.layout.Field.TheVariants.{Key, Stamp, Value}
 use Rattle.snap_steps.specs.declared.view.View.{View}
 use Rattle.snap_steps.specs.States.{link_field}
 use Rattle.snap_steps.specs.Steps.Header.{noted}

@@ -1,5 +1,5 @@
 -- The steps that make the entry of a write, and the step that counts it.
-use Rattle.std.specs.Prelude.{zero, suc, ℕ, Option, ◌+◌, true, false, List, [], ◌∷◌, ◌++◌, ◌<◌, ◌≡◌, ◌⊎◌, None}
+use Rattle.std.specs.Prelude.{zero, suc, ℕ, Option, true, false, List, [], ◌∷◌, ◌++◌, ◌<◌, ◌≡◌, ◌⊎◌, None}
 use Rattle.atomic_table.specs.Table.{Step}
 use Rattle.snap_model.specs.declared.call.Call.{Call}
 use Rattle.snap_model.specs.declared.call.Call.TheVariants.{Put, Remove}

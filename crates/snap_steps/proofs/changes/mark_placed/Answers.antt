@@ -1,4 +1,4 @@
-use Rattle.std.proofs.Common.{rules, sym, subst, ap, ◌∙◌, ◌≡◌, ◌+◌, ◌%◌, ℕ, ◌<◌, ◌≤◌}
+use Rattle.std.proofs.Common.{rules, sym, subst, ap, ◌∙◌, ◌≡◌, ◌+◌, ℕ, ◌<◌, ◌≤◌}
 use mathlib.Core.Option.{none}
 use Rattle.atomic_table.specs.Table.{step, Allows}
 use Rattle.snap_stamp.specs.Layout.{word_at}

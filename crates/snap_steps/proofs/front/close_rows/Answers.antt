@@ -1,6 +1,6 @@
 use Rattle.std.proofs.Common.{◌≡◌, ℕ, ◌+◌, ◌-◌, ◌%◌, ◌^◌, List, sym, ap, ◌∙◌, subst}
 use lib.ListN.{get_elem?}
-use Rattle.snap_steps.specs.Ending.{SpeaksForAll, Closes, Ended}
+use Rattle.snap_steps.specs.Ending.{SpeaksForAll, Closes}
 use Rattle.snap_steps.specs.Seen.{Known}
 use Rattle.snap_steps.specs.declared.view.Stage.TheVariants.{Idle}
 use Rattle.snap_steps.specs.declared.view.View.{View}
