@@ -9,4 +9,5 @@ pub mod Locks
 pub mod Writes
 pub mod Leaf
 pub mod Changes
+pub mod Below
 pub mod Way

@@ -5,6 +5,7 @@
 //! step asks, tells and makes of what its pass knows.
 #![tactic(auto)]
 
+mod absences;
 mod changes;
 mod draws;
 mod fields;
@@ -20,6 +21,7 @@ mod view;
 mod way;
 mod writes;
 
+pub use absences::confirm_absent_below;
 pub use changes::mark_shrinking;
 pub use draws::{Full, draw, try_draw};
 pub use fields::{load_key, load_word, store_key, store_own};

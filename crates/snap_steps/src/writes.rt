@@ -152,7 +152,7 @@ pub fn confirm_absent(rows: &Rows, pass: &mut Pass, row: RowNo, key: Key)
     confirm_keyed::<Brand>(rows, pass, row, key);
 }
 
-fn link_of(side: Side) -> Field
+pub(crate) fn link_of(side: Side) -> Field
     ensures { result ≡ link_field side }
 {
     match side {

@@ -75,19 +75,19 @@ no_links F l r sides.Left = l
 no_links F l r sides.Right = r
 
 -- what the way says of its last row, where the row is live or row 0
-record Below (s : Table) (key parent : ℕ) (d : Side) : Type 0 where
+pub record Below (s : Table) (key parent : ℕ) (d : Side) : Type 0 where
   pub parent_live : rule.IsParent s parent d
   pub place : (parent ≡ 0) ⊎ OnWay s.tree key parent × Toward d key (s.key parent)
   pub stands : (parent ≡ 0) ⊎ OnWay s.tree key parent
 
-below : (s : Table) (seen : List Entry) (key parent : ℕ) (d : Side) → Faces s parent key d → IsPlaced s seen parent key → (parent ≢ 0 → IsLive s parent) → Below s key parent d
+pub below : (s : Table) (seen : List Entry) (key parent : ℕ) (d : Side) → Faces s parent key d → IsPlaced s seen parent key → (parent ≢ 0 → IsLive s parent) → Below s key parent d
 below s seen key parent d (inl f) p live = record { parent_live = inl f; place = inl f.0; stands = inl f.0 }
 below s seen key parent d (inr f) (inl z) live = absurd (f.0 z)
 below s seen key parent d (inr f) (inr (inl w)) live = record { parent_live = inr (live f.0); place = inr (w.1, f.1); stands = inr w.1 }
 below s seen key parent d (inr f) (inr (inr o)) live = let l = live f.0 in absurd (l.own o.shared)
 
 -- the search stands at the row, whether it has looked at the link or not
-standing_at : (s : Table) (seen : List Entry) (key n v : ℕ) (d : Side) (r : Reading) → ReadingOk s seen r → (r ≡ On key (Standing n v d)) ⊎ (r ≡ On key (NoLink n v d)) → StageOk s seen key (Standing n v d)
+pub standing_at : (s : Table) (seen : List Entry) (key n v : ℕ) (d : Side) (r : Reading) → ReadingOk s seen r → (r ≡ On key (Standing n v d)) ⊎ (r ≡ On key (NoLink n v d)) → StageOk s seen key (Standing n v d)
 standing_at s seen key n v d r h (inl e) = subst (ReadingOk s seen) e h
 standing_at s seen key n v d r h (inr e) = let t : StageOk s seen key (NoLink n v d) = subst (ReadingOk s seen) e h in t.0
 

@@ -24,7 +24,7 @@ use Rattle.snap_stamp.specs.declared.layout.Field.TheVariants.{Key}
 use Rattle.snap_stamp.specs.declared.side.Side.{Side}
 use Rattle.snap_steps.specs.States.{state_of, link_field}
 use Rattle.snap_steps.specs.Steps.Header.{noted}
-use Rattle.snap_steps.specs.Steps.Way.{set_out_for, goes_on, way_begun, next_point, IsNext, BoundAt, last_point, read_on, next_read, Answers, IsLast, settled_at, ends_at, HasAnswer, answer_read}
+use Rattle.snap_steps.specs.Steps.Way.{set_out_for, goes_on, led_by, comes_to, way_begun, next_point, IsNext, BoundAt, last_point, read_on, next_read, Answers, IsLast, settled_at, ends_at, HasAnswer, answer_read}
 use Rattle.snap_steps.specs.Roles.{is_counted, is_live}
 use Rattle.snap_steps.specs.Rule.History.{AllBegin}
 use Rattle.snap_steps.specs.declared.view.View.{View}
@@ -38,7 +38,8 @@ use Rattle.snap_steps.proofs.Classes.Turning.{Rule}
 use Rattle.snap_steps.specs.Steps.Told.{Sat}
 use Rattle.snap_steps.proofs.Classes.Seeing.{seeing}
 use Rattle.snap_steps.specs.Memory.{Memory, field, row}
-use Rattle.snap_steps.specs.Rule.Ways.{IsOnWay}
+use Rattle.snap_steps.specs.Rule.Ways.{AllLinked, IsOnWay}
+use Rattle.snap_steps.proofs.Reached.{in_append}
 use Rattle.snap_steps.proofs.Cells.{cell_is}
 use Rattle.snap_steps.proofs.Tables.{in_times}
 use Rattle.snap_steps.proofs.Histories.{legal_begin, of_between}
@@ -124,6 +125,25 @@ bounds m g ok rows seen k (Confirmed c w) r f x low h at is = tt
 bounds m g ok rows seen k ConfirmedNone r f x low h at is = tt
 bounds m g ok rows seen k (Matched c) r f x low h at is = tt
 
+-- so does a link that a reader found
+comes_in : (m : Memory) (g : Beside) → TableOk (state_of m g) → (seen : List Entry) (k : ℕ) (t : Point) (r : ℕ) (f : Field) (x : ℕ) → StageOk (state_of m g) seen k t → IsNext t r f → word_of m r f ≡ x → AllLinked g.linked (led_by t x)
+comes_in m g ok seen k (Standing n v d) r f zero h at is = tt
+comes_in m g ok seen k (Standing n v d) r f (suc c) h at is = (go (ok.links.links n d h.stamp.reached), tt)
+  where
+    word : word_of m n (link_field d) ≡ suc c
+    word = (λ i. word_of m (sym at.0 i) (sym at.1 i)) ∙ is
+
+    go : (word_of m n (link_field d) ≡ 0) ⊎ In (word_of m n (link_field d)) g.linked → In (suc c) g.linked
+    go (inl z) = absurd (omega (arith, z, word))
+    go (inr q) = subst (λ (y : ℕ). In y g.linked) word q
+comes_in m g ok seen k (NoLink n v d) r f x h at is = tt
+comes_in m g ok seen k (Linked n v d c) r f x h at is = tt
+comes_in m g ok seen k (Stamped n v d c w) r f x h at is = tt
+comes_in m g ok seen k (Relinked n v c w) r f x h at is = tt
+comes_in m g ok seen k (Confirmed c w) r f x h at is = tt
+comes_in m g ok seen k ConfirmedNone r f x h at is = tt
+comes_in m g ok seen k (Matched c) r f x h at is = tt
+
 lasts : (s : Table) (h : List Entry) (k : ℕ) → Begins h s.history → (t : Point) (x : ℕ) → ReadingOk s h (last_point k t x)
 lasts s h k b (Standing n v d) x = tt
 lasts s h k b (NoLink n v d) x = cond_both (x == v) Resting (On k (Standing 0 0 sides.Right)) (ReadingOk s h) (λ e. tt) (λ e. (way_starts s h k b).at_stage)
@@ -140,7 +160,9 @@ reads_on about slots id me r f key point low passing stands next s k wide at sma
     let v : View = me.0 in let found : ℕ = get_or s.words (word_at r f) 0 in let is : found ≡ field f (row k.m.rows r) = cell_is k.memory r f low in let w : View = read_on v found in
     let seen = k.history.seen id v at in let way : StageOk (state_of k.m k.g) v.seen key point = subst (ReadingOk (state_of k.m k.g) v.seen) stands (k.ways id v at) in
     let after : IsOnWay (state_of k.m k.g) w = subst (λ y. ReadingOk (state_of k.m k.g) v.seen (goes_on y found)) (sym stands) (steps_on k.m k.g k.table v.seen key seen.0 point r f found way next (sym is)) in
-    (w, keeps, tt, seeing about s.words s.views k (word_at r f) id v w at (k.about_known id v at) refl refl refl refl refl refl refl refl refl refl refl (k.known id v at) (k.reached id v at) after (k.present id v at) (k.notes id v at) (k.worn id v at) refl (begins_itself v.seen) seen.0 seen.1, (refl, subst (λ y. BoundAt v.rows y found) (sym stands) (bounds k.m k.g k.table v.rows v.seen key point r f found (λ y is_there. let l = k.apart.low y (in_times y k.g.linked is_there) in let a = (k.about_known id v at (ap is_live passing)).0 in let top = k.memory.room in omega (arith, l.1)) way next (sym is))))
+    let come : AllLinked k.g.linked (comes_to v.reads found) = subst (λ y. AllLinked k.g.linked (comes_to y found)) (sym stands) (comes_in k.m k.g k.table v.seen key point r f found way next (sym is)) in
+    let reached : AllLinked k.g.linked w.reached = in_append k.g.linked v.reached (comes_to v.reads found) (k.reached id v at) come in
+    (w, keeps, tt, seeing about s.words s.views k (word_at r f) id v w at (k.about_known id v at) refl refl refl refl refl refl refl refl refl refl refl (k.known id v at) reached after (k.present id v at) (k.notes id v at) (k.worn id v at) refl (begins_itself v.seen) seen.0 seen.1, (refl, subst (λ y. BoundAt v.rows y found) (sym stands) (bounds k.m k.g k.table v.rows v.seen key point r f found (λ y is_there. let l = k.apart.low y (in_times y k.g.linked is_there) in let a = (k.about_known id v at (ap is_live passing)).0 in let top = k.memory.room in omega (arith, l.1)) way next (sym is))))
 
 -- what the reader's last word tells: a history between what the pass has seen and the whole
 record Answered (v log : List Entry) (k : ℕ) (t : Point) (x : ℕ) : Type 0 where

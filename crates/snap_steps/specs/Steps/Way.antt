@@ -1,5 +1,5 @@
 -- A reader on its way to a key: the point that it has come to decides the next word, and the word the next point.
-use Rattle.std.specs.Prelude.{ℕ, List, zero, suc, ◌==◌, ◌%◌, nat_lt, cond, ◌≤◌, ◌+◌, ◌≡◌, None, length}
+use Rattle.std.specs.Prelude.{ℕ, List, [], ◌∷◌, ◌++◌, zero, suc, ◌==◌, ◌%◌, nat_lt, cond, ◌≤◌, ◌+◌, ◌≡◌, None, length}
 use Rattle.atomic_table.specs.Table.{Step}
 use Rattle.snap_model.specs.History.{told}
 use Rattle.snap_model.specs.declared.call.Entry.{Entry}
@@ -53,9 +53,25 @@ BoundAt rows (On k (Matched c)) x = Unit {0}
 abbrev pub HasBound : View → ℕ → Type 0
 HasBound v x = BoundAt v.rows v.reads x
 
--- the reader loaded its next word
+-- the row to which a link leads
+abbrev pub led_by : Point → ℕ → List ℕ
+led_by (Standing n v d) zero = []
+led_by (Standing n v d) (suc c) = suc c ∷ []
+led_by (NoLink n v d) x = []
+led_by (Linked n v d c) x = []
+led_by (Stamped n v d c w) x = []
+led_by (Relinked n v c w) x = []
+led_by (Confirmed c w) x = []
+led_by ConfirmedNone x = []
+led_by (Matched c) x = []
+
+abbrev pub comes_to : Reading → ℕ → List ℕ
+comes_to Resting x = []
+comes_to (On k t) x = led_by t x
+
+-- the reader loaded its next word: where that is a link, the pass has reached the row to which it leads
 abbrev pub read_on : View → ℕ → View
-read_on v x = record v { steps = v.steps + 1; reads = goes_on v.reads x }
+read_on v x = record v { steps = v.steps + 1; reads = goes_on v.reads x; reached = v.reached ++ comes_to v.reads x }
 
 -- the word that the reader loads next, where its answer comes later
 abbrev pub IsNext : Point → ℕ → Field → Type 0
