@@ -1,0 +1,116 @@
+-- Steps that make the entry of a write.
+use Rattle.std.proofs.Common.{◌≡◌, ℕ, ◌+◌, ◌<◌, Bool, true, false, List, [], ◌∷◌, ◌++◌, length, set, sym, ap, ◌∙◌, subst, arith, length-append, zero, suc, refl, Some, None, ◌≢◌}
+use lib.ListN.{get_elem?}
+use mathlib.Core.Option.{some}
+use Rattle.snap_model.specs.History.{told, call_key, call_value}
+use Rattle.snap_model.specs.declared.call.Entry.{Entry}
+use Rattle.snap_rule.specs.Doing.{Concerns, DoingOk}
+use Rattle.snap_rule.specs.Rule.{TableOk, IsLive}
+use Rattle.snap_rule.specs.State.{State as Table, Beside, In}
+use Rattle.snap_rule.specs.Tree.{value_word, value_of}
+use Rattle.snap_rule.specs.Views.{ReadingOk}
+use Rattle.snap_rule.specs.declared.reader.Reading.TheVariants.{Resting}
+use Rattle.snap_stamp.specs.declared.layout.Field.TheVariants.{Birth, Stamp}
+use Rattle.snap_stamp.specs.declared.side.Side.{Side}
+use Rattle.snap_steps.specs.Counting.{times, total}
+use Rattle.snap_steps.specs.Memory.{Row, row}
+use Rattle.snap_steps.specs.Rule.Changes.{changing, HoldsIts}
+use Rattle.snap_steps.specs.Roles.{own_number, is_counted}
+use Rattle.snap_steps.specs.Stages.{in_write, is_closing, is_quiet, may_cut, owes_count, has_counted}
+use Rattle.snap_steps.specs.Rule.Apart.{AreApart}
+use Rattle.snap_steps.specs.Each.{Each}
+use Rattle.snap_steps.specs.Rule.Notes.{KnowsHeader}
+use Rattle.snap_steps.specs.Rule.Words.{IsMemory, KnowsAbout}
+use Rattle.snap_steps.specs.Rule.Gate.{IsAt}
+use Rattle.snap_steps.specs.Rule.Locks.{AreLocked, KnowsRows}
+use Rattle.snap_steps.specs.Rule.Ways.{AllLinked, IsOnWay}
+use Rattle.snap_steps.specs.Rule.Epochs.{AllAre, KnowsEpoch}
+use Rattle.snap_steps.specs.Rule.{Kept}
+use Rattle.snap_steps.specs.States.{state_of}
+use Rattle.snap_steps.proofs.Tables.{Moves, doings_stay, ways_evolve, all_are, live_row}
+use Rattle.snap_steps.proofs.Reached.{all_linked_grows}
+use Rattle.snap_steps.specs.declared.view.View.{View}
+use Rattle.snap_steps.specs.declared.view.Role.TheVariants.{Passing}
+use Rattle.snap_steps.specs.declared.view.Stage.TheVariants.{Writing}
+use Rattle.snap_steps.specs.declared.rule.About.{About}
+use Rattle.snap_steps.proofs.EachView.{each_set, each_stays}
+use Rattle.snap_steps.proofs.Totals.{total-set, term_le}
+use Rattle.snap_steps.proofs.Parts.Drawn.{drawn_stays}
+use Rattle.snap_steps.proofs.Parts.Names.{named_stays}
+use Rattle.snap_steps.proofs.Parts.Gate.{gated_moves}
+use Rattle.snap_steps.proofs.Parts.Uses.{used_moves, cut_stays}
+use Rattle.snap_steps.proofs.Parts.History.{history_entered}
+use Rattle.snap_steps.specs.Steps.Writes.{call_of}
+use Rattle.snap_steps.specs.Facts.{IsBorn}
+use Rattle.snap_steps.proofs.Knowing.{known_is}
+use Rattle.snap_steps.specs.Rule.Worn.{KnowsWorn}
+use Rattle.snap_steps.specs.Rule.Names.{ActsAsPass}
+use Rattle.snap_steps.proofs.Parts.Worn.{worn_evolves, worns_evolve}
+
+-- a step of a write without its entry that writes one word of a held row, or none, and makes the entry
+pub entering : (about : About) (words : List ℕ) (views : List View) (k : Kept about words views) (id : ℕ) (v w : View) (at : get_elem? views id ≡ some v) (words' : List ℕ) (rows' : List Row) (e : Entry) (b : Beside) (counted : Bool) (away : ℕ → Type 0)
+    → IsMemory about words' (record k.m { rows = rows' }) → v.role ≡ Passing → v.stage ≡ Writing false counted → owes_count (Writing false counted) ≡ 0 → has_counted (Writing false counted) ≡ 0 → e.who ≡ v.who → e.reply ≡ told k.g.history (call_key e.call)
+    → w.rows ≡ v.rows → w.passes ≡ v.passes → w.who ≡ v.who → w.role ≡ v.role → w.stage ≡ Writing true false → w.seen ≡ k.g.history ++ e ∷ [] → w.mine ≡ v.mine ++ e ∷ [] → KnowsHeader k.m.next k.m.epoch w → w.cuts ≡ v.cuts → KnowsWorn (state_of k.m k.g) w → w.drawn ≡ v.drawn → w.uses ≡ v.uses → w.admitted ≡ v.admitted → w.joined ≡ v.joined → w.reached ≡ v.reached → w.present ≡ v.present → w.reads ≡ Resting
+    → (let g' : Beside = record b { history = k.g.history ++ e ∷ []; writers = k.g.writers } in Moves (state_of k.m k.g) (state_of (record k.m { rows = rows' }) g') away) → ((n : ℕ) (d : Side) → b.pending n d ≡ k.g.pending n d) → w.doing ≡ v.doing → w.holds ≡ v.holds → ((j : ℕ) (u : View) → get_elem? views j ≡ some u → (n : ℕ) → Concerns u.doing n → away n)
+    → AreLocked rows' (set views id w) → Each (KnowsRows rows') (set views id w) → AreApart k.m.next rows' b.linked (set views id w)
+    → Kept about words' (set views id w)
+entering about words views k id v w at words' rows' e b counted away memory passing writing no_debt not_counted mine_is reply rows passes who role stage seen mine notes cuts worn drawn uses admitted joined reached present way moves pending doing holds clear locked known apart =
+    let a : in_write v.stage ≡ 1 = ap in_write writing in let c0 : is_closing v.stage ≡ 0 = ap is_closing writing in let c : may_cut v.stage ≡ 0 = ap may_cut writing in let q : is_quiet v.stage ≡ 0 = ap is_quiet writing in
+    let a' : in_write w.stage ≡ 1 = ap in_write stage in let b' : is_closing w.stage ≡ 0 = ap is_closing stage in let c' : may_cut w.stage ≡ 0 = ap may_cut stage in let q' : is_quiet w.stage ≡ 0 = ap is_quiet stage in
+    let o : owes_count v.stage ≡ 0 = ap owes_count writing ∙ no_debt in let o' : owes_count w.stage ≡ 1 = ap owes_count stage in
+    let d : has_counted v.stage ≡ 0 = ap has_counted writing ∙ not_counted in let d' : has_counted w.stage ≡ 0 = ap has_counted stage in
+    let g = k.gated in
+    let g' : Beside = record b { history = k.g.history ++ e ∷ []; writers = k.g.writers } in
+    let s' : Table = state_of (record k.m { rows = rows' }) g' in
+    let ev = moves.0 in
+    record {
+      m = record k.m { rows = rows' };
+      g = g';
+      memory = memory;
+      about_known = each_stays views id v w at (KnowsAbout about) k.about_known (λ p live. let t = p (ap Rattle.snap_steps.specs.Roles.is_live (sym role) ∙ live) in (rows ∙ t.0, passes ∙ t.1));
+      named = named_stays views id v w at about.passes k.named who role admitted;
+      history = history_entered views id v w at k.g.history e k.history k.named.once passing mine_is reply seen mine who role admitted joined;
+      counted = record { all = omega (arith, k.counted.all, length-append k.g.history (e ∷ []), total-set (λ u. owes_count u.stage) views id v w at); few = omega (arith, k.counted.few, total-set (λ u. has_counted u.stage) views id v w at) };
+      drawn = drawn_stays views id v w at k.m.next k.m.next k.drawn (omega arith) (λ x. ap (times x) drawn);
+      notes = each_stays views id v w at (KnowsHeader k.m.next k.m.epoch) k.notes (λ _. notes);
+      gated = gated_moves views id v w at k.m.gate k.m.left k.m.gate k.m.left g (omega arith) (omega (arith, g.one))
+          (λ some_quiet. omega (arith, total-set (λ u. in_write u.stage) views id v w at, g.quiet (omega (arith, total-set (λ u. is_quiet u.stage) views id v w at))))
+          (each_stays views id v w at (λ u. IsAt k.m.gate u.stage) g.at (λ p. subst (IsAt k.m.gate) (sym stage) tt));
+      used = used_moves views id v w at k.m.gate k.m.epoch k.m.gate k.m.epoch k.used who role admitted (omega (arith, uses)) (let own : length (own_number w.role w.who) ≡ length (own_number v.role v.who) = (λ j. length (own_number (role j) (who j))) in omega (arith, (k.used.few id v at).0, uses));
+      locked = locked;
+      known = known;
+      table = moves.1;
+      writers = omega (arith, k.writers, total-set (λ u. in_write u.stage) views id v w at);
+      changes = λ n y none. pending n y ∙ k.changes n y (omega (arith, none, ap (changing n y) doing, total-set (λ u. changing n y u.doing) views id v w at));
+      doing = each_stays views id v w at (λ u. DoingOk s' u.doing) (doings_stay (state_of k.m k.g) s' views k.doing (λ j u there n x. moves.2 n (clear j u there n x))) (λ p. subst (DoingOk s') (sym doing) p);
+      held = each_stays views id v w at HoldsIts k.held (λ p n x. subst (λ (l : List ℕ). 0 < times n l) (sym holds) (p n (subst (λ y. Concerns y n) doing x)));
+      present = each_stays views id v w at (KnowsEpoch k.m.epoch) k.present (λ p. (subst (AllAre k.m.epoch) (sym present) p.0, λ z. absurd (omega (arith, z, a'))));
+      reached = each_set {P = λ u. AllLinked k.g.linked u.reached} {Q = λ u. AllLinked b.linked u.reached} views id w k.reached (λ u p. all_linked_grows k.g.linked b.linked ev.linked u.reached p)
+          (subst (AllLinked b.linked) (sym reached) (all_linked_grows k.g.linked b.linked ev.linked v.reached (k.reached id v at)));
+      ways = each_set {P = IsOnWay s'} {Q = IsOnWay s'} views id w (ways_evolve (state_of k.m k.g) s' views ev k.history.seen k.ways) (λ u p. p) (subst (ReadingOk s' w.seen) (sym way) tt);
+      worn = each_set {P = KnowsWorn s'} {Q = KnowsWorn s'} views id w (worns_evolve (state_of k.m k.g) s' views ev k.worn) (λ u p. p) (λ saw. worn_evolves (state_of k.m k.g) s' ev (worn saw));
+      cut = cut_stays views id v w at k.m.epoch k.cut cuts admitted;
+      acting = each_stays views id v w at ActsAsPass k.acting (λ _ z. absurd (omega (arith, z, ap is_counted role, ap is_counted passing)));
+      apart = apart;
+    }
+
+pub key_made : (key n : ℕ) → call_key (call_of key n) ≡ key
+key_made key zero = refl
+key_made key (suc n) = refl
+
+pub value_made : (key n : ℕ) → value_word (call_value (call_of key n)) ≡ n
+value_made key zero = refl
+value_made key (suc n) = refl
+
+-- the value that a word is
+pub value_is : (o : Rattle.std.proofs.Common.Option ℕ) (x : ℕ) → x ≡ value_word o → value_of x ≡ o
+value_is None x e = ap value_of e
+value_is (Some y) x e = ap value_of e
+
+pub some_write : (views : List View) (id : ℕ) (v : View) (writers : ℕ) → get_elem? views id ≡ some v → writers ≡ total (λ u. in_write u.stage) views → in_write v.stage ≡ 1 → writers ≢ 0
+some_write views id v writers at is writing = λ z. omega (arith, term_le (λ u. in_write u.stage) views id v at)
+
+-- a row of which this is known under the lock is live
+pub born_live : (s : Table) (rows : List Row) (epoch : ℕ) (v : View) (r : ℕ) → TableOk s → s.birth r ≡ (row rows r).birth → s.stamp r ≡ (row rows r).stamp → s.epoch ≡ epoch → KnowsRows rows v → AllAre epoch v.present → In r s.linked → IsBorn v r → IsLive s r
+born_live s rows epoch v r ok birth stamp now known present is h =
+    live_row s r h.birth h.stamp ok is (birth ∙ known_is rows v.holds v.knows r Birth h.birth known h.is_birth) (all_are epoch h.birth v.present present h.now ∙ sym now) (stamp ∙ known_is rows v.holds v.knows r Stamp h.stamp known h.is_stamp) h.unmarked
