@@ -6,11 +6,11 @@ use mathlib.Core.Option.{some}
 use native.Mathlib.Decide.{ℕ_discrete}
 use Rattle.snap_model.specs.History.{Begins}
 use Rattle.snap_model.specs.declared.call.Entry.{Entry}
-use Rattle.snap_rule.proofs.Carried.{doing_kept}
-use Rattle.snap_rule.proofs.Kept.{stage_kept}
-use Rattle.snap_rule.proofs.Others.{header_apart, lock_apart, own_apart}
-use Rattle.snap_rule.proofs.Present.{live_known}
-use Rattle.snap_rule.proofs.Silent.{header_evolves, lock_evolves, own_evolves}
+use Rattle.snap_rule.proofs.InChange.{doing_kept}
+use Rattle.snap_rule.proofs.Readers.Kept.{point_kept}
+use Rattle.snap_rule.proofs.LeftAlone.{header_apart, lock_apart, own_apart}
+use Rattle.snap_rule.proofs.Parts.Present.{live_known}
+use Rattle.snap_rule.proofs.Evolving.Silent.{header_evolves, lock_evolves, own_evolves}
 use Rattle.snap_rule.proofs.Table.{header_keeps, lock_keeps, own_keeps}
 use Rattle.snap_rule.proofs.Updates.{changed_same, changed_other}
 use Rattle.snap_rule.specs.Doing.{Apart, Concerns, DoingOk}
@@ -40,7 +40,7 @@ use Rattle.snap_steps.specs.States.{state_of, with_word}
 use Rattle.snap_steps.proofs.Cells.{changed}
 use Rattle.snap_steps.proofs.States.{sets}
 use Rattle.snap_stamp.specs.declared.side.Side.TheVariants as sides
-use Rattle.snap_rule.specs.WordKinds as word_kinds
+use Rattle.snap_rule.specs.Kinds.Words as word_kinds
 use Rattle.snap_rule.specs.Updates as updates
 
 pub in_times : (r : ℕ) (l : List ℕ) → In r l → 0 < times r l
@@ -59,7 +59,7 @@ all_are e x (y ∷ ys) h l = dite (ℕ_discrete x y) (λ q. q ∙ h.0) (λ ne. a
 -- the law for one way, and for those of all views
 pub reading_evolves : (s s' : Table) → Evolves s s' → (seen : List Entry) (r : Reading) → Begins seen s.history → ReadingOk s seen r → ReadingOk s' seen r
 reading_evolves s s' ev seen Resting b h = tt
-reading_evolves s s' ev seen (On k t) b h = stage_kept s s' ev seen k t b h
+reading_evolves s s' ev seen (On k t) b h = point_kept s s' ev seen k t b h
 
 pub ways_evolve : (s s' : Table) (views : List View) → Evolves s s' → Each (IsIn s.history) views → Each (IsOnWay s) views → Each (IsOnWay s') views
 ways_evolve s s' views ev seen ways j u at = reading_evolves s s' ev u.seen u.reads (seen j u at).0 (ways j u at)
@@ -106,7 +106,7 @@ same_words : {A : Type 0} (f : ℕ → A) (r y : ℕ) → updates.changed f r (f
 same_words f r y = dite (ℕ_discrete y r) (λ e. ap (updates.changed f r (f r)) e ∙ changed_same f r (f r) ∙ ap f (sym e)) (λ ne. changed_other f r (f r) y ne)
 
 -- a word of a row that isn't linked
-own_word : (s : Table) (r : ℕ) (f : Field) (x : ℕ) → f ≢ Lock → f ≢ Stamp → word_kinds.MayOwn s r → TableOk s → Moves s (with_word s r f x) (λ n. n ≢ r)
+own_word : (s : Table) (r : ℕ) (f : Field) (x : ℕ) → f ≢ Lock → f ≢ Stamp → word_kinds.MayStoreOwn s r → TableOk s → Moves s (with_word s r f x) (λ n. n ≢ r)
 own_word s r f x no_lock no_stamp may ok = go f no_lock no_stamp
   where
     at : (k b h v : ℕ) (l : Side → ℕ) → Moves s (word_kinds.own_stored s r k b h v l) (λ n. n ≢ r)
@@ -122,7 +122,7 @@ own_word s r f x no_lock no_stamp may ok = go f no_lock no_stamp
     go Lock a b = absurd (a refl)
     go Stamp a b = absurd (b refl)
 
-pub own_moves : (m : Memory) (g : Beside) (r : ℕ) (f : Field) (x : ℕ) → r < Rattle.std.proofs.Common.length m.rows → f ≢ Lock → f ≢ Stamp → word_kinds.MayOwn (state_of m g) r → TableOk (state_of m g) → Moves (state_of m g) (state_of (record m { rows = changed m.rows r f x }) g) (λ n. n ≢ r)
+pub own_moves : (m : Memory) (g : Beside) (r : ℕ) (f : Field) (x : ℕ) → r < Rattle.std.proofs.Common.length m.rows → f ≢ Lock → f ≢ Stamp → word_kinds.MayStoreOwn (state_of m g) r → TableOk (state_of m g) → Moves (state_of m g) (state_of (record m { rows = changed m.rows r f x }) g) (λ n. n ≢ r)
 own_moves m g r f x near a b may ok = let s : Table = state_of m g in subst (λ (z : Table). Moves s z (λ n. n ≢ r)) (sym (sets m g r f x near)) (own_word s r f x a b may ok)
 
 -- what a write knows of a row makes it live

@@ -2,7 +2,7 @@
 use Rattle.std.proofs.Common.{◌≡◌, ◌≢◌, ℕ, List, set, refl, arith}
 use lib.ListN.{get_elem?}
 use mathlib.Core.Option.{some}
-use Rattle.snap_rule.proofs.Carried.{doing_kept}
+use Rattle.snap_rule.proofs.InChange.{doing_kept}
 use Rattle.snap_rule.specs.Doing.{Concerns, DoingOk}
 use Rattle.snap_rule.specs.State.{State as Table, Beside}
 use Rattle.snap_rule.specs.State.Change.{plain}

@@ -4,7 +4,7 @@ use lib.ListN.{get_elem?}
 use mathlib.Core.Option.{some}
 use Rattle.atomic_table.specs.Table.{State}
 use Rattle.snap_rule.specs.Doing.{DoingOk}
-use Rattle.snap_rule.specs.WordKinds.{MayCount}
+use Rattle.snap_rule.specs.Kinds.Words.{MayCount}
 use Rattle.snap_steps.specs.declared.view.View.{View}
 use Rattle.snap_steps.specs.Rule.{Kept}
 use Rattle.snap_steps.specs.declared.rule.About.{About}

@@ -5,7 +5,7 @@ use Rattle.snap_model.specs.History.{told}
 use Rattle.snap_model.specs.declared.call.Call.TheVariants.{Remove}
 use Rattle.snap_model.specs.declared.call.Entry.{Entry}
 use Rattle.snap_rule.proofs.Table.{absent_evolves, absent_keeps, absent_below}
-use Rattle.snap_rule.specs.Reader.{StageOk}
+use Rattle.snap_rule.specs.Reader.{PointOk}
 use Rattle.snap_rule.specs.Rule.{IsLive}
 use Rattle.snap_rule.specs.State.{State as Table, In, WasLinked}
 use Rattle.snap_rule.specs.Tree.{find}
@@ -39,7 +39,7 @@ use Rattle.snap_steps.proofs.Parts.Apart.{apart_stays}
 use Rattle.snap_steps.proofs.Parts.Locks.{locked_stays}
 use Rattle.snap_steps.proofs.Tables.{Moves, Anywhere}
 use mathlib.Core.Option as maybe
-use Rattle.snap_rule.specs.EntryKinds as entry_kinds
+use Rattle.snap_rule.specs.Kinds.Entries as entry_kinds
 
 -- the second load of a link of 0 at a place
 pub confirms_below : (about : About) (slots id : ℕ) (me : Sat) (r key : ℕ) (f : Field) → me.0.role ≡ Passing → me.0.stage ≡ Writing false false → IsPlace me.0 key r f → me.0.doing ≡ Nothing
@@ -48,14 +48,14 @@ confirms_below about slots id me r key f passing writing place whole s k wide at
     let v : View = me.0 in let known = k.known id v at in let st : Table = state_of k.m k.g in
     let d : Side = place.side in
     let e : Entry = entry v.who (Remove key) None in let w : View = made_entry v k.g.history e in
-    let way : StageOk st v.seen key (Standing r place.stamp d) = standing_at st v.seen key r place.stamp d v.reads (k.ways id v at) place.way in
+    let way : PointOk st v.seen key (Standing r place.stamp d) = standing_at st v.seen key r place.stamp d v.reads (k.ways id v at) place.way in
     let stamp : st.stamp r ≡ place.stamp = known_is k.m.rows v.holds v.knows r Stamp place.stamp known place.still in
     let live : r ≢ 0 → IsLive st r = λ nz. born_live st k.m.rows k.m.epoch v r k.table refl refl refl known (k.present id v at).0 (is_in st r nz way.stamp.reached) (is_born v r nz place.live) in
     let under = below st v.seen key r d way.faces (way.placed stamp) live in
     let none : st.link r d ≡ 0 = ap (λ (y : Field). field y (row k.m.rows r)) (sym place.by_side) ∙ known_is k.m.rows v.holds v.knows r f 0 known place.none in
     let absent : find k.g.tree key ≡ None = absent_below st key r d k.table way.faces under.stands (held_plain k id v at whole r place.held d) none in
     let none_there : told k.g.history key ≡ None = sym (k.table.tree.tells key) ∙ absent in
-    let may : entry_kinds.MayConfirm st e = record { removal = refl; absent = absent } in
+    let may : entry_kinds.MayConfirmAbsent st e = record { removal = refl; absent = absent } in
     let moves : Moves st (entry_kinds.absent_confirmed st e) Anywhere = (absent_evolves st e, absent_keeps st e k.table may, λ n _. record { stamp = refl; link = λ d. refl; links = λ d. refl; pending = λ d. refl; named = λ m x q. q; live = λ l. record { stands = l.stands; own = λ h. l.own (record { is_row = h.is_row; older = h.older }) } }) in
     let seen = k.history.seen id v at in let own = (k.history.mine id v at).0 (ap is_counted passing) in (
       w,

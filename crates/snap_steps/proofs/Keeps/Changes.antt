@@ -5,11 +5,11 @@ use mathlib.Core.Logic.{dite}
 use mathlib.Core.Option.{some, some-injective}
 use native.Mathlib.Decide.{ℕ_discrete}
 use Rattle.atomic_table.specs.Table.{step, keeps, Allows}
-use Rattle.snap_rule.proofs.Carried.{shrink_doing}
-use Rattle.snap_rule.proofs.Others.{shrink_apart}
-use Rattle.snap_rule.proofs.Steps.{shrink_evolves}
+use Rattle.snap_rule.proofs.InChange.{shrink_doing}
+use Rattle.snap_rule.proofs.LeftAlone.{shrink_apart}
+use Rattle.snap_rule.proofs.Evolving.Telling.{shrink_evolves}
 use Rattle.snap_rule.proofs.Table.{shrink_keeps}
-use Rattle.snap_rule.specs.Doing.{Concerns, DoingOk, NotNamed, Turn}
+use Rattle.snap_rule.specs.Doing.{Concerns, DoingOk, NotNamed, IsRotation}
 use Rattle.snap_rule.specs.Rule.{IsLive}
 use Rattle.snap_rule.specs.State.{State as Table, In}
 use Rattle.snap_rule.specs.State.Change.{unlinking, lowering, raising, plain}
@@ -47,7 +47,7 @@ use Rattle.snap_steps.proofs.Classes.Rewriting.{rewriting}
 use Rattle.snap_stamp.specs.declared.side.Side.TheVariants as sides
 use mathlib.Core.Option as maybe
 use Rattle.snap_rule.specs.Rule as rule
-use Rattle.snap_rule.specs.RotationKinds as rotation_kinds
+use Rattle.snap_rule.specs.Kinds.Rotation as rotation_kinds
 use Rattle.snap_steps.specs.Rule.History.{whole}
 
 link_is : (n m : ℕ) (d e : Side) → at_link n d m e ≢ 0 → (n ≡ m) × (d ≡ e)
@@ -59,12 +59,12 @@ link_is n m sides.Right sides.Right h = (dite (ℕ_discrete n m) (λ q. q) (λ n
 -- a link that is raising a row is in no change of a pass that doesn't hold the row
 not_raising : (s : Table) (g : Doing) (n : ℕ) (e : Side) (r : ℕ) → DoingOk s g → s.pending n e ≡ raising r → (Concerns g r → ⊥) → changing n e g ≡ 0
 not_raising s Nothing n e r ok q away = refl
-not_raising s (Unlinked p d m only) n e r ok q away = dite (ℕ_discrete (at_link n e p d) 0) (λ z. z) (λ nz. let t = link_is n p e d nz in let x : raising r ≡ unlinking m = sym q ∙ (λ i. s.pending (t.0 i) (t.1 i)) ∙ ok.1 in absurd (cc))
+not_raising s (Unlinked p d m only) n e r ok q away = dite (ℕ_discrete (at_link n e p d) 0) (λ z. z) (λ nz. let t = link_is n p e d nz in let x : raising r ≡ unlinking m = sym q ∙ (λ i. s.pending (t.0 i) (t.1 i)) ∙ ok.change in absurd (cc))
 not_raising s (Shrunk p c m d raised) n e r ok q away = refl
-not_raising s (Lowered p c m d raised) n e r ok q away = dite (ℕ_discrete (at_link n e m d) 0) (λ z. z) (λ nz. let t = link_is n m e d nz in let x : raising r ≡ lowering (s.link m d) = sym q ∙ (λ i. s.pending (t.0 i) (t.1 i)) ∙ ok.2 in absurd (cc))
+not_raising s (Lowered p c m d raised) n e r ok q away = dite (ℕ_discrete (at_link n e m d) 0) (λ z. z) (λ nz. let t = link_is n m e d nz in let x : raising r ≡ lowering (s.link m d) = sym q ∙ (λ i. s.pending (t.0 i) (t.1 i)) ∙ ok.row_link in absurd (cc))
 not_raising s (Lifted p c m d raised) n e r ok q away =
-    let a : at_link n e m d ≡ 0 = dite (ℕ_discrete (at_link n e m d) 0) (λ z. z) (λ nz. let t = link_is n m e d nz in let x : raising r ≡ lowering (s.link m d) = sym q ∙ (λ i. s.pending (t.0 i) (t.1 i)) ∙ ok.2 in absurd (cc)) in
-    let b : at_link n e raised (other d) ≡ 0 = dite (ℕ_discrete (at_link n e raised (other d)) 0) (λ z. z) (λ nz. let t = link_is n raised e (other d) nz in let x : raising r ≡ raising m = sym q ∙ (λ i. s.pending (t.0 i) (t.1 i)) ∙ ok.4 in let same : r ≡ m = cc in absurd (away (inr (inl same)))) in omega (arith, a, b)
+    let a : at_link n e m d ≡ 0 = dite (ℕ_discrete (at_link n e m d) 0) (λ z. z) (λ nz. let t = link_is n m e d nz in let x : raising r ≡ lowering (s.link m d) = sym q ∙ (λ i. s.pending (t.0 i) (t.1 i)) ∙ ok.row_link in absurd (cc)) in
+    let b : at_link n e raised (other d) ≡ 0 = dite (ℕ_discrete (at_link n e raised (other d)) 0) (λ z. z) (λ nz. let t = link_is n raised e (other d) nz in let x : raising r ≡ raising m = sym q ∙ (λ i. s.pending (t.0 i) (t.1 i)) ∙ ok.raised_link in let same : r ≡ m = cc in absurd (away (inr (inl same)))) in omega (arith, a, b)
 not_raising s (Turned m) n e r ok q away = refl
 
 module _ {about : About} {words : List ℕ} {views : List View} (k : Kept about words views) (id : ℕ) (v : View) (at : get_elem? views id ≡ some v) (whole : v.doing ≡ Nothing) where
@@ -101,7 +101,7 @@ shrinks about slots id me parent p r d raised x low turn stamp_known unmarked wh
     let child = known_is k.m.rows v.holds v.knows parent (link_field p) r known turn.child in
     let raised_link = known_is k.m.rows v.holds v.knows r (link_field d) raised known turn.raised_child in
     let links : k.g.links r d ≡ raised = sym (subst (kinds_fits st r d) (plain_at r turn.held d) (k.table.changes.fits r d (inr live.stands))) ∙ raised_link in
-    let is_turn : Turn st parent p r d raised = record {
+    let is_turn : IsRotation st parent p r d raised = record {
       parent_live = parent_is st p turn.parent_born (λ l b. alive parent l b);
       live = live;
       raised_live = alive raised turn.raised_reached turn.raised_born;
@@ -112,7 +112,7 @@ shrinks about slots id me parent p r d raised x low turn stamp_known unmarked wh
       apart = turn.apart;
     } in
     let clean : IsUnmarked (st.stamp r) = ap (λ (y : ℕ). y % 4) stamp ∙ unmarked in
-    let may : rotation_kinds.MayShrink st r = record { writing = some_write s.views id v k.g.writers at k.writers writing; live = live; unmarked = clean } in
+    let may : rotation_kinds.MayMarkShrinking st r = record { writing = some_write s.views id v k.g.writers at k.writers writing; live = live; unmarked = clean } in
     let s' : Table = state_of (record k.m { rows = rows' }) k.g in
     let path : s' ≡ rotation_kinds.shrinking_marked st r = sets k.m k.g r Stamp (x + 2) near ∙ ap (λ (y : ℕ). with_word st r Stamp (y + 2)) (sym stamp) in
     let away : ℕ → Type 0 = λ (n : ℕ). n ≢ r in

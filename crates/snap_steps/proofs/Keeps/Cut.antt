@@ -4,7 +4,7 @@ use lib.ListN.{get_elem?}
 use mathlib.Core.Option.{some}
 use Rattle.atomic_table.specs.Table.{step, keeps, Allows}
 use Rattle.snap_model.specs.declared.call.Entry.{Entry}
-use Rattle.snap_rule.proofs.Steps.{cut_evolves}
+use Rattle.snap_rule.proofs.Evolving.Telling.{cut_evolves}
 use Rattle.snap_rule.proofs.Table.{cut_keeps}
 use Rattle.snap_rule.specs.Doing.{DoingOk}
 use Rattle.snap_rule.specs.Evolves.{Evolves}
@@ -44,7 +44,7 @@ use Rattle.snap_steps.proofs.Parts.History.{whole_grows}
 use Rattle.snap_steps.proofs.Classes.Turning.{Rule}
 use Rattle.snap_steps.specs.Steps.Told.{Sat}
 use mathlib.Core.Option as maybe
-use Rattle.snap_rule.specs.CloneKinds as clone_kinds
+use Rattle.snap_rule.specs.Kinds.Clones as clone_kinds
 use Rattle.snap_steps.specs.Rule.Worn.{KnowsWorn}
 use Rattle.snap_steps.proofs.Parts.Worn.{worns_evolve}
 use Rattle.snap_steps.specs.Numbers.{all_cuts}

@@ -8,7 +8,7 @@ use mathlib.Core.Option.{some}
 use native.Mathlib.Decide.{ℕ_discrete}
 use Rattle.atomic_table.specs.Table.{step, keeps, Allows}
 use Rattle.snap_rule.specs.Doing.{DoingOk}
-use Rattle.snap_rule.specs.WordKinds.{MayOwn}
+use Rattle.snap_rule.specs.Kinds.Words.{MayStoreOwn}
 use Rattle.snap_stamp.specs.Layout.{word_at}
 use Rattle.snap_stamp.specs.declared.layout.Field.{Field}
 use Rattle.snap_stamp.specs.declared.layout.Field.TheVariants.{Stamp, Lock}
@@ -73,7 +73,7 @@ stores_own about slots id me r new f low no_lock no_stamp mine s k wide at small
     let lock : x.lock ≡ (row k.m.rows r).lock = field_other Lock f new (row k.m.rows r) (λ e. no_lock (sym e)) in
     let free : (row k.m.rows r).lock ≡ 0 = (k.apart.fresh r pos own.0).0 in let still : x.stamp ≡ (row k.m.rows r).stamp = field_other Stamp f new (row k.m.rows r) (λ e. no_stamp (sym e)) in
     let apart : (j : ℕ) (u : View) → get_elem? s.views j ≡ some u → times r u.holds ≡ 0 = λ j u there. omega (arith, term_le (λ y. times r y.holds) s.views j u there, k.locked.count r, ap is_taken free) in
-    let may : MayOwn (state_of k.m k.g) r = record { is_row = pos; fresh = λ is. omega (arith, in_times r k.g.linked is, own.0) } in
+    let may : MayStoreOwn (state_of k.m k.g) r = record { is_row = pos; fresh = λ is. omega (arith, in_times r k.g.linked is, own.0) } in
     let moves = own_moves k.m k.g r f new near no_lock no_stamp may k.table in (
       w,
       keeps,

@@ -8,12 +8,13 @@ use Rattle.atomic_table.specs.Table.{step, keeps, Allows}
 use Rattle.snap_model.specs.History.{told}
 use Rattle.snap_model.specs.declared.call.Call.TheVariants.{Put}
 use Rattle.snap_model.specs.declared.call.Entry.{Entry}
-use Rattle.snap_rule.proofs.Others.{leaf_apart}
-use Rattle.snap_rule.proofs.Silent.{leaf_evolves}
+use Rattle.snap_rule.proofs.LeftAlone.{leaf_apart}
+use Rattle.snap_rule.proofs.Evolving.Silent.{leaf_evolves}
 use Rattle.snap_rule.proofs.Table.{leaf_keeps, absent_below}
 use Rattle.snap_rule.specs.Doing.{Concerns}
-use Rattle.snap_rule.specs.Evolves.{IsPlaced}
-use Rattle.snap_rule.specs.Reader.{Faces, StageOk}
+use Rattle.snap_rule.specs.Position.{IsPlaced}
+use Rattle.snap_rule.specs.Position.{Faces}
+use Rattle.snap_rule.specs.Reader.{PointOk}
 use Rattle.snap_rule.specs.Rule.{IsLive}
 use Rattle.snap_rule.specs.State.{State as Table, In, WasLinked, Beside}
 use Rattle.snap_rule.specs.State.Change.{plain}
@@ -58,7 +59,7 @@ use Rattle.snap_stamp.specs.declared.side.Side.TheVariants as sides
 use Rattle.snap_rule.specs.Updates as updates
 use Rattle.snap_rule.specs.Rule as rule
 use mathlib.Core.Option as maybe
-use Rattle.snap_rule.specs.EntryKinds as entry_kinds
+use Rattle.snap_rule.specs.Kinds.Entries as entry_kinds
 use Rattle.snap_rule.specs.TreeChanges as tree_changes
 use Rattle.snap_steps.specs.Rule.History.{whole}
 
@@ -87,9 +88,9 @@ below s seen key parent d (inr f) (inr (inl w)) live = record { parent_live = in
 below s seen key parent d (inr f) (inr (inr o)) live = let l = live f.0 in absurd (l.own o.shared)
 
 -- the search stands at the row, whether it has looked at the link or not
-pub standing_at : (s : Table) (seen : List Entry) (key n v : ℕ) (d : Side) (r : Reading) → ReadingOk s seen r → (r ≡ On key (Standing n v d)) ⊎ (r ≡ On key (NoLink n v d)) → StageOk s seen key (Standing n v d)
+pub standing_at : (s : Table) (seen : List Entry) (key n v : ℕ) (d : Side) (r : Reading) → ReadingOk s seen r → (r ≡ On key (Standing n v d)) ⊎ (r ≡ On key (NoLink n v d)) → PointOk s seen key (Standing n v d)
 standing_at s seen key n v d r h (inl e) = subst (ReadingOk s seen) e h
-standing_at s seen key n v d r h (inr e) = let t : StageOk s seen key (NoLink n v d) = subst (ReadingOk s seen) e h in t.0
+standing_at s seen key n v d r h (inr e) = let t : PointOk s seen key (NoLink n v d) = subst (ReadingOk s seen) e h in t.0
 
 -- K7
 pub links_leaf : (about : About) (slots id : ℕ) (me : Sat) (r key value parent : ℕ) (f : Field) → parent ≤ about.rows → key < 2 ^ 64 → me.0.role ≡ Passing → me.0.stage ≡ Writing false false → IsLeaf me.0 r key value → IsPlace me.0 key parent f → me.0.doing ≡ Nothing
@@ -100,7 +101,7 @@ links_leaf about slots id me r key value parent f low small_key passing writing 
     let x : Row = with_field f r (row k.m.rows parent) in let rows' : List Row = changed k.m.rows parent f r in
     let is_lock : f ≢ Lock = λ e. no_lock d (sym place.by_side ∙ e) in
     let known = k.known id v at in let wrote = k.apart.wrote id v at in
-    let way : StageOk st v.seen key (Standing parent place.stamp d) = standing_at st v.seen key parent place.stamp d v.reads (k.ways id v at) place.way in
+    let way : PointOk st v.seen key (Standing parent place.stamp d) = standing_at st v.seen key parent place.stamp d v.reads (k.ways id v at) place.way in
     let stamp : st.stamp parent ≡ place.stamp = known_is k.m.rows v.holds v.knows parent Stamp place.stamp known place.still in
     let linked_parent : parent ≢ 0 → In parent k.g.linked = λ nz. is_in (state_of k.m k.g) parent nz way.stamp.reached in
     let live : parent ≢ 0 → IsLive st parent = λ nz. born_live st k.m.rows k.m.epoch v parent k.table refl refl refl known (k.present id v at).0 (linked_parent nz) (is_born v parent nz place.live) in
@@ -121,11 +122,12 @@ links_leaf about slots id me r key value parent f low small_key passing writing 
     (λ ne. ((λ q. omega (arith, k.held j u there n c, others_apart s.views id v at k.m.rows parent k.locked place.held j u ne there, ap (λ (i : ℕ). times i u.holds) q)), (λ q. omega (arith, k.held j u there n c, unlocked j u there, ap (λ (i : ℕ). times i u.holds) q)))) in
     let word : (h : Field) (y : ℕ) → Rattle.snap_steps.specs.Facts.IsKnown v.wrote r h y → field h (row k.m.rows r) ≡ y = λ h y. known_is k.m.rows v.own v.wrote r h y wrote in
     let e : Entry = entry v.who (Put key value) None in let w : View = hung v k.g.history e parent f r in
-    let may : entry_kinds.MayLeaf st parent d r e = record {
+    let may : entry_kinds.MayLinkLeaf st parent d r e = record {
       writing = some_write s.views id v k.g.writers at k.writers (ap in_write writing);
       parent_live = under.parent_live;
       no_child = none;
       no_change = none_pending d;
+      is_put = λ q. cc q;
       place = under.place;
       small = small_key;
       is_row = pos;

@@ -5,9 +5,9 @@ use Rattle.atomic_table.specs.Table.{step, keeps, Allows}
 use Rattle.snap_model.specs.History.{told, call_key, call_value}
 use Rattle.snap_model.specs.declared.call.Call.TheVariants.{Remove}
 use Rattle.snap_model.specs.declared.call.Entry.{Entry}
-use Rattle.snap_rule.proofs.Loads.{own_told}
-use Rattle.snap_rule.proofs.Others.{store_apart}
-use Rattle.snap_rule.proofs.Steps.{store_evolves}
+use Rattle.snap_rule.proofs.Readers.Loads.{own_told}
+use Rattle.snap_rule.proofs.LeftAlone.{store_apart}
+use Rattle.snap_rule.proofs.Evolving.Telling.{store_evolves}
 use Rattle.snap_rule.proofs.Table.{store_keeps, absent_evolves, absent_keeps, absent_here}
 use Rattle.snap_rule.specs.Rule.{IsLive}
 use Rattle.snap_rule.specs.State.{State as Table, In, Beside}
@@ -45,7 +45,7 @@ use Rattle.snap_steps.proofs.Parts.Counts.{counted_writes}
 use Rattle.snap_steps.proofs.Parts.Uses.{gate_small, used_moves}
 use Rattle.snap_steps.proofs.Parts.Gate.{gated_moves}
 use mathlib.Core.Option as maybe
-use Rattle.snap_rule.specs.EntryKinds as entry_kinds
+use Rattle.snap_rule.specs.Kinds.Entries as entry_kinds
 use Rattle.snap_rule.specs.TreeChanges as tree_changes
 
 -- K8
@@ -59,7 +59,7 @@ stores about slots id me r key new low passing writing held reached key_known bo
     let st : Table = state_of k.m k.g in
     let live : IsLive st r = born_live st k.m.rows k.m.epoch v r k.table refl refl refl (k.known id v at) (k.present id v at).0 is_linked born in
     let e : Entry = entry v.who (call_of key new) (value_of found) in let w : View = stored v k.g.history e r new in
-    let may : entry_kinds.MayStore st r e = record { writing = some_write s.views id v k.g.writers at k.writers (ap in_write writing); live = live; key = is_key ∙ sym (key_made key new) } in
+    let may : entry_kinds.MayStoreValue st r e = record { writing = some_write s.views id v k.g.writers at k.writers (ap in_write writing); live = live; key = is_key ∙ sym (key_made key new) } in
     let b : Beside = record k.g { tree = tree_changes.with_value r (call_value (call_of key new)) k.g.tree } in
     let s' : Table = state_of (record k.m { rows = rows' }) (record b { history = k.g.history ++ e ∷ []; writers = k.g.writers }) in
     let path : s' ≡ entry_kinds.value_stored st r e = sets k.m (record b { history = k.g.history ++ e ∷ []; writers = k.g.writers }) r Value new near ∙ ap (λ (n : ℕ). with_word (state_of k.m (record b { history = k.g.history ++ e ∷ []; writers = k.g.writers })) r Value n) (sym (value_made key new)) in
@@ -97,7 +97,7 @@ confirms about slots id me r key low passing writing reached key_known value_kno
     let live : IsLive st r = born_live st k.m.rows k.m.epoch v r k.table refl refl refl known (k.present id v at).0 (in_of k.g.linked v.reached r (k.reached id v at) reached) born in
     let absent : find k.g.tree key ≡ None = ap (find k.g.tree) (sym is_key) ∙ absent_here st r k.table live is_zero in
     let none_there : told k.g.history key ≡ None = sym (k.table.tree.tells key) ∙ absent in
-    let may : entry_kinds.MayConfirm st e = record { removal = refl; absent = absent } in
+    let may : entry_kinds.MayConfirmAbsent st e = record { removal = refl; absent = absent } in
     let moves : Moves st (entry_kinds.absent_confirmed st e) Anywhere = (absent_evolves st e, absent_keeps st e k.table may, λ n _. record { stamp = refl; link = λ d. refl; links = λ d. refl; pending = λ d. refl; named = λ m x q. q; live = λ l. record { stands = l.stands; own = λ h. l.own (record { is_row = h.is_row; older = h.older }) } }) in
     let seen = k.history.seen id v at in let own = (k.history.mine id v at).0 (ap is_counted passing) in (
       w,
