@@ -10,6 +10,7 @@ use Rattle.snap_rule.specs.State.{State}
 abbrev pub KeepsHeights : State → State → ℕ → Type 0
 KeepsHeights s s' n = (d : Side) → child_height s' n d ≡ child_height s n d
 
+-- the links, the value and the height of a row, and the stored heights of its children
 pub record Loaded : Type 0 where
   pub left : ℕ
   pub right : ℕ

@@ -21,6 +21,7 @@ PointOk s seen k (Confirmed c w) = IsChild s c w × IsCandidate s seen k c w
 PointOk s seen k ConfirmedNone = WasAbsent s seen k
 PointOk s seen k (Matched c) = In c s.linked × (s.key c ≡ k) × HasTold s seen c k
 
+-- the same with what was seen, a part of the history
 pub record ReaderOk (s : State) (seen : List Entry) (k : ℕ) (point : Point) : Type 0 where
   pub begins : Begins seen s.history
   pub at_point : PointOk s seen k point

@@ -21,14 +21,17 @@ pub record View : Type 0 where
   pub tries : Trying
   pub doing : Doing
 
+-- what is known on a way
 abbrev pub ReadingOk : State → List Entry → Reading → Type 0
 ReadingOk s seen Resting = Unit {0}
 ReadingOk s seen (On k t) = PointOk s seen k t
 
+-- what is known in a call of `try_get`
 abbrev pub TryingOk : State → Trying → Type 0
 TryingOk s Idle = Unit {0}
 TryingOk s (Since ended l low high c) = QuietOk s ended l × CalmOk s ended low high c
 
+-- what is known of one pass, which holds the rows of its change
 pub record ViewOk (s : State) (v : View) : Type 0 where
   pub seen : Begins v.seen s.history
   pub reads : ReadingOk s v.seen v.reads

@@ -50,7 +50,11 @@ pub record MayOweTurn (s : State) (debts : ℕ → Debt) (id parent : ℕ) (p : 
 
 -- `link_parent`: each of the three rows has another child now
 abbrev pub raise_debt : State → ℕ → ℕ → ℕ → Debt → Debt
-raise_debt s parent row raised v = record { to_do = Some (s.key row); list = noted s row (noted s raised (noted s parent v.list)); turning = Some row }
+raise_debt s parent row raised v = record {
+  to_do = Some (s.key row);
+  list = noted s row (noted s raised (noted s parent v.list));
+  turning = Some row;
+}
 
 pub record MayOweRaise (s : State) (debts : ℕ → Debt) (id parent row raised : ℕ) : Type 0 where
   pub turning : (debts id).turning ≡ Some row

@@ -66,13 +66,15 @@ pub record LeavesAlone (s : State) (n : ℕ) : Type 0 where
   pub header : (g a w : ℕ) → Apart s (header_stored s g a w) n
   pub leaf : (parent : ℕ) (d : Side) (row : ℕ) (e : Entry) → n ≢ parent → n ≢ row → Apart s (leaf_linked s parent d row e) n
   pub store : (row : ℕ) (e : Entry) → Apart s (value_stored s row e) n
-  pub copy : (parent : ℕ) (d : Side) (row copy : ℕ) → MayLinkCopy s parent d row copy → n ≢ parent → n ≢ copy → Apart s (copy_linked s parent d row copy) n
+  pub copy : (parent : ℕ) (d : Side) (row copy : ℕ) → MayLinkCopy s parent d row copy → n ≢ parent → n ≢ copy
+      → Apart s (copy_linked s parent d row copy) n
   pub unlink : (parent : ℕ) (d : Side) (row : ℕ) → MayMarkUnlinked s parent d row → n ≢ parent → n ≢ row → Apart s (unlinked_marked s parent d row) n
   pub splice : (parent : ℕ) (d : Side) → n ≢ parent → Apart s (spliced s parent d) n
   pub shrink : (row : ℕ) → n ≢ row → Apart s (shrinking_marked s row) n
   pub lower : (row : ℕ) (d : Side) (raised : ℕ) → n ≢ row → Apart s (lowered_linked s row d raised) n
   pub lift : (row : ℕ) (d : Side) (raised : ℕ) → n ≢ row → n ≢ raised → Apart s (raised_linked s row d raised) n
-  pub raise : (parent : ℕ) (p : Side) (row : ℕ) (d : Side) (raised : ℕ) → n ≢ parent → n ≢ row → n ≢ raised → Apart s (parent_linked s parent p row d raised) n
+  pub raise : (parent : ℕ) (p : Side) (row : ℕ) (d : Side) (raised : ℕ) → n ≢ parent → n ≢ row → n ≢ raised
+      → Apart s (parent_linked s parent p row d raised) n
   pub clear : (row : ℕ) → n ≢ row → Apart s (shrinking_cleared s row) n
   pub height : (row x : ℕ) → Apart s (height_stored s row x) n
 

@@ -24,15 +24,19 @@ pub record KindsLeave (s : State) (who : ℕ) : Type 0 where
   pub take : (row x : ℕ) → s.lock row ≡ 0 → LeavesOthers s (lock_stored s row x) who
   pub free : (row : ℕ) → s.lock row ≡ who + 1 → LeavesOthers s (lock_stored s row 0) who
   pub header : (g a w : ℕ) → LeavesOthers s (header_stored s g a w) who
-  pub leaf : (parent : ℕ) (d : Side) (row : ℕ) (e : Entry) → MayLinkLeaf s parent d row e → s.lock parent ≡ who + 1 → LeavesOthers s (leaf_linked s parent d row e) who
+  pub leaf : (parent : ℕ) (d : Side) (row : ℕ) (e : Entry) → MayLinkLeaf s parent d row e → s.lock parent ≡ who + 1
+      → LeavesOthers s (leaf_linked s parent d row e) who
   pub store : (row : ℕ) (e : Entry) → LeavesOthers s (value_stored s row e) who
-  pub copy : (parent : ℕ) (d : Side) (row copy : ℕ) → MayLinkCopy s parent d row copy → s.lock parent ≡ who + 1 → LeavesOthers s (copy_linked s parent d row copy) who
-  pub unlink : (parent : ℕ) (d : Side) (row : ℕ) → MayMarkUnlinked s parent d row → s.lock parent ≡ who + 1 → s.lock row ≡ who + 1 → LeavesOthers s (unlinked_marked s parent d row) who
+  pub copy : (parent : ℕ) (d : Side) (row copy : ℕ) → MayLinkCopy s parent d row copy → s.lock parent ≡ who + 1
+      → LeavesOthers s (copy_linked s parent d row copy) who
+  pub unlink : (parent : ℕ) (d : Side) (row : ℕ) → MayMarkUnlinked s parent d row → s.lock parent ≡ who + 1 → s.lock row ≡ who + 1
+      → LeavesOthers s (unlinked_marked s parent d row) who
   pub splice : (parent : ℕ) (d : Side) → s.lock parent ≡ who + 1 → LeavesOthers s (spliced s parent d) who
   pub shrink : (row : ℕ) → s.lock row ≡ who + 1 → LeavesOthers s (shrinking_marked s row) who
   pub lower : (row : ℕ) (d : Side) (raised : ℕ) → s.lock row ≡ who + 1 → LeavesOthers s (lowered_linked s row d raised) who
   pub lift : (row : ℕ) (d : Side) (raised : ℕ) → s.lock row ≡ who + 1 → s.lock raised ≡ who + 1 → LeavesOthers s (raised_linked s row d raised) who
-  pub raise : (parent : ℕ) (p : Side) (row : ℕ) (d : Side) (raised : ℕ) → s.lock parent ≡ who + 1 → s.lock row ≡ who + 1 → s.lock raised ≡ who + 1 → LeavesOthers s (parent_linked s parent p row d raised) who
+  pub raise : (parent : ℕ) (p : Side) (row : ℕ) (d : Side) (raised : ℕ) → s.lock parent ≡ who + 1 → s.lock row ≡ who + 1 → s.lock raised ≡ who + 1
+      → LeavesOthers s (parent_linked s parent p row d raised) who
   pub clear : (row : ℕ) → s.lock row ≡ who + 1 → LeavesOthers s (shrinking_cleared s row) who
   pub height : (row x : ℕ) → LeavesOthers s (height_stored s row x) who
   pub absent : (e : Entry) → LeavesOthers s (absent_confirmed s e) who
