@@ -54,7 +54,7 @@ sets_out about slots id me key passing alone s k wide at small =
       w,
       keeps,
       tt,
-      seeing about s.words s.views k 3 id v w at (k.about_known id v at) refl refl refl refl refl refl refl refl refl refl refl (k.known id v at) (k.reached id v at) start.at_stage (k.present id v at) (header_more k.m.next k.m.epoch v (Done r) (k.notes id v at) tt) (k.worn id v at) refl seen (begins_itself k.g.history) (subst (λ l. AllBegin l k.g.history) (sym alone) tt),
+      seeing about s.words s.views k 3 id v w at (k.known id v at) (k.reached id v at) start.at_stage (k.present id v at) (header_more k.m.next k.m.epoch v (Done r) (k.notes id v at) tt) (k.worn id v at) seen (begins_itself k.g.history) (subst (λ l. AllBegin l k.g.history) (sym alone) tt),
       (k.g.history, record { goes_on = seen; legal = k.history.legal; own = sym own.0 }, omega (arith, k.counted.all), refl),
     )
 
@@ -140,7 +140,7 @@ reads_on about slots id me r f key point low passing stands next s k wide at sma
     let v : View = me.0 in let found : ℕ = get_or s.words (word_at r f) 0 in let is : found ≡ field f (row k.m.rows r) = cell_is k.memory r f low in let w : View = read_on v found in
     let seen = k.history.seen id v at in let way : StageOk (state_of k.m k.g) v.seen key point = subst (ReadingOk (state_of k.m k.g) v.seen) stands (k.ways id v at) in
     let after : IsOnWay (state_of k.m k.g) w = subst (λ y. ReadingOk (state_of k.m k.g) v.seen (goes_on y found)) (sym stands) (steps_on k.m k.g k.table v.seen key seen.0 point r f found way next (sym is)) in
-    (w, keeps, tt, seeing about s.words s.views k (word_at r f) id v w at (k.about_known id v at) refl refl refl refl refl refl refl refl refl refl refl (k.known id v at) (k.reached id v at) after (k.present id v at) (k.notes id v at) (k.worn id v at) refl (begins_itself v.seen) seen.0 seen.1, (refl, subst (λ y. BoundAt v.rows y found) (sym stands) (bounds k.m k.g k.table v.rows v.seen key point r f found (λ y is_there. let l = k.apart.low y (in_times y k.g.linked is_there) in let a = (k.about_known id v at (ap is_live passing)).0 in let top = k.memory.room in omega (arith, l.1)) way next (sym is))))
+    (w, keeps, tt, seeing about s.words s.views k (word_at r f) id v w at (k.known id v at) (k.reached id v at) after (k.present id v at) (k.notes id v at) (k.worn id v at) (begins_itself v.seen) seen.0 seen.1, (refl, subst (λ y. BoundAt v.rows y found) (sym stands) (bounds k.m k.g k.table v.rows v.seen key point r f found (λ y is_there. let l = k.apart.low y (in_times y k.g.linked is_there) in let a = (k.about_known id v at (ap is_live passing)).0 in let top = k.memory.room in omega (arith, l.1)) way next (sym is))))
 
 -- what the reader's last word tells: a history between what the pass has seen and the whole
 record Answered (v log : List Entry) (k : ℕ) (t : Point) (x : ℕ) : Type 0 where
@@ -174,7 +174,7 @@ reads_last about slots id me r f key point low passing alone stands last s k wid
       settled_at v h found,
       keeps,
       tt,
-      seeing about s.words s.views k (word_at r f) id v (settled_at v h found) at (k.about_known id v at) refl refl refl refl refl refl refl refl refl refl refl (k.known id v at) (k.reached id v at) (subst (λ y. ReadingOk (state_of k.m k.g) h (ends_at y found)) (sym stands) (lasts (state_of k.m k.g) h key t.to point found)) (k.present id v at) (k.notes id v at) (k.worn id v at) refl t.from t.to seen.1,
+      seeing about s.words s.views k (word_at r f) id v (settled_at v h found) at (k.known id v at) (k.reached id v at) (subst (λ y. ReadingOk (state_of k.m k.g) h (ends_at y found)) (sym stands) (lasts (state_of k.m k.g) h key t.to point found)) (k.present id v at) (k.notes id v at) (k.worn id v at) t.from t.to seen.1,
       (
         h,
         record { goes_on = t.from; legal = legal_begin h k.g.history t.to k.history.legal; own = of_between v.seen h k.g.history v.who t.from t.to own.1 ∙ sym own.0 },
