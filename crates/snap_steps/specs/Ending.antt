@@ -3,7 +3,7 @@ use Rattle.std.specs.Prelude.{◌≡◌, ℕ, ◌<◌, ◌≤◌, List, [], leng
 use mathlib.Core.Option.{some}
 use lib.ListN.{get_elem?}
 use Rattle.snap_model.specs.History.{IsLegal, after, calls_of}
-use Rattle.snap_steps.specs.Counting.{times}
+use Rattle.snap_steps.specs.Counting.{times, Among}
 use Rattle.snap_steps.specs.Numbers.{numbers, all_cuts}
 use Rattle.snap_steps.specs.Rule.{Kept}
 use Rattle.snap_steps.specs.Rule.History.{AreTheirs}
@@ -22,7 +22,7 @@ pub record Ended : Type 0 where
 
 -- each number below the number of passes is that of the pass, or was admitted to it
 abbrev pub SpeaksForAll : View → Type 0
-SpeaksForAll v = (i : ℕ) → i < v.passes → 0 < times i (numbers v)
+SpeaksForAll v = (i : ℕ) → i < v.passes → Among i (numbers v)
 
 -- the table's last state, which meets the rule
 pub record IsLastState (v : View) (drawn : ℕ) : Type 0 where

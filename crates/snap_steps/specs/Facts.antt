@@ -4,7 +4,7 @@ use Rattle.snap_stamp.specs.Layout.{place_of}
 use Rattle.snap_stamp.specs.declared.layout.Field.{Field}
 use Rattle.snap_stamp.specs.declared.layout.Field.TheVariants.{Birth, Stamp}
 use Rattle.snap_steps.specs.declared.view.Fact.{Fact}
-use Rattle.snap_steps.specs.Counting.{times}
+use Rattle.snap_steps.specs.Counting.{times, Among}
 use Rattle.snap_steps.specs.Memory.{Row, row, field}
 use Rattle.snap_steps.specs.declared.view.View.{View}
 
@@ -31,13 +31,13 @@ IsKnown (y ∷ ys) r f x = ((y.row ≡ r) × (y.field ≡ f) × (y.word ≡ x)) 
 -- what is known of held rows is so
 abbrev pub AreFacts : List Row → List ℕ → List Fact → Type 0
 AreFacts rows holds [] = Unit {0}
-AreFacts rows holds (x ∷ xs) = (field x.field (row rows x.row) ≡ x.word) × (0 < times x.row holds) × AreFacts rows holds xs
+AreFacts rows holds (x ∷ xs) = (field x.field (row rows x.row) ≡ x.word) × (Among x.row holds) × AreFacts rows holds xs
 
 -- under its lock the row is known to be of this epoch and without the mark of the unlinked
 pub record IsBorn (v : View) (r : ℕ) : Type 0 where
   pub birth : ℕ
   pub is_birth : IsKnown v.knows r Birth birth
-  pub now : 0 < times birth v.present
+  pub now : Among birth v.present
   pub stamp : ℕ
   pub is_stamp : IsKnown v.knows r Stamp stamp
   pub unmarked : stamp % 2 ≡ 0

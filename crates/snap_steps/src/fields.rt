@@ -3,7 +3,7 @@ ghost use Rattle.std.specs.Prelude.{◌≡◌, ◌≢◌, ℕ, ◌<◌, ◌≤�
 ghost use Rattle.snap_stamp.specs.Layout.{word_at};
 ghost use Rattle.snap_stamp.specs.declared.layout.Field.{Field};
 ghost use Rattle.snap_stamp.specs.declared.layout.Field.TheVariants.{Key, Lock, Stamp};
-ghost use Rattle.snap_steps.specs.Counting.{times};
+ghost use Rattle.snap_steps.specs.Counting.{Among};
 ghost use Rattle.snap_steps.specs.Facts.{IsKnown};
 ghost use Rattle.snap_steps.specs.Seen.{IsOf, Becomes};
 ghost use Rattle.snap_steps.specs.Steps.Fields.{read, own_stored, word_loaded, stored_own};
@@ -73,7 +73,7 @@ fn store_placed<J: Placed>(rows: &Rows, pass: &mut Pass, row: RowNo, field: Fiel
     requires place { (row ≡ J.at_row) × (field ≡ J.at_field) }
     requires table { IsOf pass.old rows.now }
     requires row { row ≤ rows.now.rows }
-    requires own { 0 < times row pass.old.view.own }
+    requires own { Among row pass.old.view.own }
     requires field { (field ≢ Lock) × (field ≢ Stamp) }
     ensures { Becomes pass.old pass.new (own_stored pass.old.view J.at_row J.at_field word) }
 {
@@ -87,7 +87,7 @@ fn store_placed<J: Placed>(rows: &Rows, pass: &mut Pass, row: RowNo, field: Fiel
 pub fn store_own(rows: &Rows, pass: &mut Pass, row: RowNo, field: Field, word: u64)
     requires table { IsOf pass.old rows.now }
     requires row { row ≤ rows.now.rows }
-    requires own { 0 < times row pass.old.view.own }
+    requires own { Among row pass.old.view.own }
     requires field { (field ≢ Lock) × (field ≢ Stamp) }
     ensures { Becomes pass.old pass.new (own_stored pass.old.view row field word) }
 {
@@ -98,7 +98,7 @@ pub fn store_own(rows: &Rows, pass: &mut Pass, row: RowNo, field: Field, word: u
 pub fn store_key(rows: &Rows, pass: &mut Pass, row: RowNo, key: Key)
     requires table { IsOf pass.old rows.now }
     requires row { row ≤ rows.now.rows }
-    requires own { 0 < times row pass.old.view.own }
+    requires own { Among row pass.old.view.own }
     ensures { Becomes pass.old pass.new (own_stored pass.old.view row Key key) }
 {
     store_own(rows, pass, row, Field::Key, key);

@@ -1,7 +1,7 @@
 //! The locks of rows.
 ghost use Rattle.std.specs.Prelude.{◌≡◌, ◌⊎◌, ◌<◌, ◌≤◌, Bool, MatchBool};
 ghost use Rattle.snap_rule.specs.declared.change.Doing.TheVariants.{Nothing};
-ghost use Rattle.snap_steps.specs.Counting.{times};
+ghost use Rattle.snap_steps.specs.Counting.{Among, times};
 ghost use Rattle.snap_steps.specs.Seen.{IsOf, Becomes};
 ghost use Rattle.snap_steps.specs.Steps.Locks.{locked, missed, unlocked, locking_tried, lock_freed};
 ghost use Rattle.snap_steps.specs.declared.view.Stage.TheVariants.{Writing};
@@ -31,7 +31,7 @@ pub fn try_lock(rows: &Rows, pass: &mut Pass, row: RowNo) -> bool
     requires row { row ≤ rows.now.rows }
     requires writing { (made : Bool) × (counted : Bool) × (pass.old.view.stage ≡ Writing made counted) }
     requires free { times row pass.old.view.holds ≡ 0 }
-    requires reached { (row ≡ 0) ⊎ (0 < times row pass.old.view.reached) }
+    requires reached { (row ≡ 0) ⊎ (Among row pass.old.view.reached) }
     ensures { MatchBool result (Becomes pass.old pass.new (locked pass.old.view row)) (Becomes pass.old pass.new (missed pass.old.view)) }
 {
     let word = index_of(row, Field::Lock);
@@ -47,7 +47,7 @@ pub fn try_lock(rows: &Rows, pass: &mut Pass, row: RowNo) -> bool
 pub fn free_lock(rows: &Rows, pass: &mut Pass, row: RowNo)
     requires table { IsOf pass.old rows.now }
     requires row { row ≤ rows.now.rows }
-    requires held { 0 < times row pass.old.view.holds }
+    requires held { Among row pass.old.view.holds }
     requires whole { pass.old.view.doing ≡ Nothing }
     ensures { Becomes pass.old pass.new (unlocked pass.old.view row) }
 {

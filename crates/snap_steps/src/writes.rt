@@ -5,7 +5,7 @@ ghost use Rattle.snap_rule.specs.Tree.{value_of};
 ghost use Rattle.snap_rule.specs.declared.change.Doing.TheVariants.{Nothing};
 ghost use Rattle.snap_stamp.specs.declared.layout.Field.{Field};
 ghost use Rattle.snap_stamp.specs.declared.layout.Field.TheVariants.{Key, Value};
-ghost use Rattle.snap_steps.specs.Counting.{times};
+ghost use Rattle.snap_steps.specs.Counting.{Among};
 ghost use Rattle.snap_steps.specs.Facts.{IsKnown, IsBorn};
 ghost use Rattle.snap_steps.specs.Histories.{Enters};
 ghost use Rattle.snap_steps.specs.Pairs.{added_by, taken_by};
@@ -86,8 +86,8 @@ pub fn store_value(rows: &Rows, pass: &mut Pass, row: RowNo, key: Key, new: u64)
     requires table { IsOf pass.old rows.now }
     requires row { row ≤ rows.now.rows }
     requires writing { pass.old.view.stage ≡ Writing false false }
-    requires held { 0 < times row pass.old.view.holds }
-    requires reached { 0 < times row pass.old.view.reached }
+    requires held { Among row pass.old.view.holds }
+    requires reached { Among row pass.old.view.reached }
     requires key { IsKnown pass.old.view.knows row Key key }
     requires born { IsBorn pass.old.view row }
     ensures known { (x : ℕ) → IsKnown pass.old.view.knows row Value x → result ≡ x }
@@ -124,8 +124,8 @@ fn confirm_keyed<J: Saying>(rows: &Rows, pass: &mut Pass, row: RowNo, key: Key)
     requires table { IsOf pass.old rows.now }
     requires row { row ≤ rows.now.rows }
     requires writing { pass.old.view.stage ≡ Writing false false }
-    requires held { 0 < times row pass.old.view.holds }
-    requires reached { 0 < times row pass.old.view.reached }
+    requires held { Among row pass.old.view.holds }
+    requires reached { Among row pass.old.view.reached }
     requires known { IsKnown pass.old.view.knows row Key key × IsKnown pass.old.view.knows row Value 0 }
     requires born { IsBorn pass.old.view row }
     ensures { (log : _) × Enters pass.old.view log (entry pass.old.view.who (Remove J.key) None) × Becomes pass.old pass.new (made_entry pass.old.view log (entry pass.old.view.who (Remove J.key) None)) }
@@ -143,8 +143,8 @@ pub fn confirm_absent(rows: &Rows, pass: &mut Pass, row: RowNo, key: Key)
     requires table { IsOf pass.old rows.now }
     requires row { row ≤ rows.now.rows }
     requires writing { pass.old.view.stage ≡ Writing false false }
-    requires held { 0 < times row pass.old.view.holds }
-    requires reached { 0 < times row pass.old.view.reached }
+    requires held { Among row pass.old.view.holds }
+    requires reached { Among row pass.old.view.reached }
     requires known { IsKnown pass.old.view.knows row Key key × IsKnown pass.old.view.knows row Value 0 }
     requires born { IsBorn pass.old.view row }
     ensures { (log : _) × Enters pass.old.view log (entry pass.old.view.who (Remove key) None) × Becomes pass.old pass.new (made_entry pass.old.view log (entry pass.old.view.who (Remove key) None)) }

@@ -46,19 +46,23 @@ use Rattle.snap_steps.proofs.Knowing.{known_is}
 use Rattle.snap_steps.specs.Rule.Worn.{KnowsWorn}
 use Rattle.snap_steps.specs.Rule.Names.{ActsAsPass}
 use Rattle.snap_steps.proofs.Parts.Worn.{worn_evolves, worns_evolve}
+use Rattle.snap_steps.specs.declared.view.Fact.{Fact}
+
+-- the view of a pass that has made the entry e, after which these are its own rows and what it knows
+abbrev pub with_entry : View → List Entry → Entry → List ℕ → List Fact → List Fact → View
+with_entry v log e own wrote knows = record v { reads = Resting; seen = log ++ e ∷ []; mine = v.mine ++ e ∷ []; stage = Writing true false; own = own; wrote = wrote; knows = knows }
 
 -- a step of a write without its entry that writes one word of a held row, or none, and makes the entry
-pub entering : (about : About) (words : List ℕ) (views : List View) (k : Kept about words views) (id : ℕ) (v w : View) (at : get_elem? views id ≡ some v) (words' : List ℕ) (rows' : List Row) (e : Entry) (b : Beside) (counted : Bool) (away : ℕ → Type 0)
-    → IsMemory about words' (record k.m { rows = rows' }) → v.role ≡ Passing → v.stage ≡ Writing false counted → owes_count (Writing false counted) ≡ 0 → has_counted (Writing false counted) ≡ 0 → e.who ≡ v.who → e.reply ≡ told k.g.history (call_key e.call)
-    → w.rows ≡ v.rows → w.passes ≡ v.passes → w.who ≡ v.who → w.role ≡ v.role → w.stage ≡ Writing true false → w.seen ≡ k.g.history ++ e ∷ [] → w.mine ≡ v.mine ++ e ∷ [] → KnowsHeader k.m.next k.m.epoch w → w.cuts ≡ v.cuts → KnowsWorn (state_of k.m k.g) w → w.drawn ≡ v.drawn → w.uses ≡ v.uses → w.admitted ≡ v.admitted → w.joined ≡ v.joined → w.reached ≡ v.reached → w.present ≡ v.present → w.reads ≡ Resting
-    → (let g' : Beside = record b { history = k.g.history ++ e ∷ []; writers = k.g.writers } in Moves (state_of k.m k.g) (state_of (record k.m { rows = rows' }) g') away) → ((n : ℕ) (d : Side) → b.pending n d ≡ k.g.pending n d) → w.doing ≡ v.doing → w.holds ≡ v.holds → ((j : ℕ) (u : View) → get_elem? views j ≡ some u → (n : ℕ) → Concerns u.doing n → away n)
-    → AreLocked rows' (set views id w) → Each (KnowsRows rows') (set views id w) → AreApart k.m.next rows' b.linked (set views id w)
-    → Kept about words' (set views id w)
-entering about words views k id v w at words' rows' e b counted away memory passing writing no_debt not_counted mine_is reply rows passes who role stage seen mine notes cuts worn drawn uses admitted joined reached present way moves pending doing holds clear locked known apart =
+pub entering : (about : About) (words : List ℕ) (views : List View) (k : Kept about words views) (id : ℕ) (v : View) (at : get_elem? views id ≡ some v) (words' : List ℕ) (rows' : List Row) (e : Entry) (b : Beside) (own : List ℕ) (wrote knows : List Fact) (away : ℕ → Type 0)
+    → IsMemory about words' (record k.m { rows = rows' }) → v.role ≡ Passing → v.stage ≡ Writing false false → e.who ≡ v.who → e.reply ≡ told k.g.history (call_key e.call)
+    → (let g' : Beside = record b { history = k.g.history ++ e ∷ []; writers = k.g.writers } in Moves (state_of k.m k.g) (state_of (record k.m { rows = rows' }) g') away)
+    → ((n : ℕ) (d : Side) → b.pending n d ≡ k.g.pending n d) → ((j : ℕ) (u : View) → get_elem? views j ≡ some u → (n : ℕ) → Concerns u.doing n → away n)
+    → AreLocked rows' (set views id (with_entry v k.g.history e own wrote knows)) → Each (KnowsRows rows') (set views id (with_entry v k.g.history e own wrote knows)) → AreApart k.m.next rows' b.linked (set views id (with_entry v k.g.history e own wrote knows))
+    → Kept about words' (set views id (with_entry v k.g.history e own wrote knows))
+entering about words views k id v at words' rows' e b own wrote knows away memory passing writing mine_is reply moves pending clear locked known apart =
+    let w : View = with_entry v k.g.history e own wrote knows in
     let a : in_write v.stage ≡ 1 = ap in_write writing in let c0 : is_closing v.stage ≡ 0 = ap is_closing writing in let c : may_cut v.stage ≡ 0 = ap may_cut writing in let q : is_quiet v.stage ≡ 0 = ap is_quiet writing in
-    let a' : in_write w.stage ≡ 1 = ap in_write stage in let b' : is_closing w.stage ≡ 0 = ap is_closing stage in let c' : may_cut w.stage ≡ 0 = ap may_cut stage in let q' : is_quiet w.stage ≡ 0 = ap is_quiet stage in
-    let o : owes_count v.stage ≡ 0 = ap owes_count writing ∙ no_debt in let o' : owes_count w.stage ≡ 1 = ap owes_count stage in
-    let d : has_counted v.stage ≡ 0 = ap has_counted writing ∙ not_counted in let d' : has_counted w.stage ≡ 0 = ap has_counted stage in
+    let o : owes_count v.stage ≡ 0 = ap owes_count writing in let d : has_counted v.stage ≡ 0 = ap has_counted writing in
     let g = k.gated in
     let g' : Beside = record b { history = k.g.history ++ e ∷ []; writers = k.g.writers } in
     let s' : Table = state_of (record k.m { rows = rows' }) g' in
@@ -67,30 +71,29 @@ entering about words views k id v w at words' rows' e b counted away memory pass
       m = record k.m { rows = rows' };
       g = g';
       memory = memory;
-      about_known = each_stays views id v w at (KnowsAbout about) k.about_known (λ p live. let t = p (ap Rattle.snap_steps.specs.Roles.is_live (sym role) ∙ live) in (rows ∙ t.0, passes ∙ t.1));
-      named = named_stays views id v w at about.passes k.named who role admitted;
-      history = history_entered views id v w at k.g.history e k.history k.named.once passing mine_is reply seen mine who role admitted joined;
+      about_known = each_stays views id v w at (KnowsAbout about) k.about_known (λ p. p);
+      named = named_stays views id v w at about.passes k.named refl refl refl;
+      history = history_entered views id v w at k.g.history e k.history k.named.once passing mine_is reply refl refl refl refl refl refl;
       counted = record { all = omega (arith, k.counted.all, length-append k.g.history (e ∷ []), total-set (λ u. owes_count u.stage) views id v w at); few = omega (arith, k.counted.few, total-set (λ u. has_counted u.stage) views id v w at) };
-      drawn = drawn_stays views id v w at k.m.next k.m.next k.drawn (omega arith) (λ x. ap (times x) drawn);
-      notes = each_stays views id v w at (KnowsHeader k.m.next k.m.epoch) k.notes (λ _. notes);
+      drawn = drawn_stays views id v w at k.m.next k.m.next k.drawn (omega arith) (λ x. refl);
+      notes = each_stays views id v w at (KnowsHeader k.m.next k.m.epoch) k.notes (λ p. p);
       gated = gated_moves views id v w at k.m.gate k.m.left k.m.gate k.m.left g (omega arith) (omega (arith, g.one))
           (λ some_quiet. omega (arith, total-set (λ u. in_write u.stage) views id v w at, g.quiet (omega (arith, total-set (λ u. is_quiet u.stage) views id v w at))))
-          (each_stays views id v w at (λ u. IsAt k.m.gate u.stage) g.at (λ p. subst (IsAt k.m.gate) (sym stage) tt));
-      used = used_moves views id v w at k.m.gate k.m.epoch k.m.gate k.m.epoch k.used who role admitted (omega (arith, uses)) (let own : length (own_number w.role w.who) ≡ length (own_number v.role v.who) = (λ j. length (own_number (role j) (who j))) in omega (arith, (k.used.few id v at).0, uses));
+          (each_stays views id v w at (λ u. IsAt k.m.gate u.stage) g.at (λ p. tt));
+      used = used_moves views id v w at k.m.gate k.m.epoch k.m.gate k.m.epoch k.used refl refl refl (omega arith) (k.used.few id v at).0;
       locked = locked;
       known = known;
       table = moves.1;
       writers = omega (arith, k.writers, total-set (λ u. in_write u.stage) views id v w at);
-      changes = λ n y none. pending n y ∙ k.changes n y (omega (arith, none, ap (changing n y) doing, total-set (λ u. changing n y u.doing) views id v w at));
-      doing = each_stays views id v w at (λ u. DoingOk s' u.doing) (doings_stay (state_of k.m k.g) s' views k.doing (λ j u there n x. moves.2 n (clear j u there n x))) (λ p. subst (DoingOk s') (sym doing) p);
-      held = each_stays views id v w at HoldsIts k.held (λ p n x. subst (λ (l : List ℕ). 0 < times n l) (sym holds) (p n (subst (λ y. Concerns y n) doing x)));
-      present = each_stays views id v w at (KnowsEpoch k.m.epoch) k.present (λ p. (subst (AllAre k.m.epoch) (sym present) p.0, λ z. absurd (omega (arith, z, a'))));
-      reached = each_set {P = λ u. AllLinked k.g.linked u.reached} {Q = λ u. AllLinked b.linked u.reached} views id w k.reached (λ u p. all_linked_grows k.g.linked b.linked ev.linked u.reached p)
-          (subst (AllLinked b.linked) (sym reached) (all_linked_grows k.g.linked b.linked ev.linked v.reached (k.reached id v at)));
-      ways = each_set {P = IsOnWay s'} {Q = IsOnWay s'} views id w (ways_evolve (state_of k.m k.g) s' views ev k.history.seen k.ways) (λ u p. p) (subst (ReadingOk s' w.seen) (sym way) tt);
-      worn = each_set {P = KnowsWorn s'} {Q = KnowsWorn s'} views id w (worns_evolve (state_of k.m k.g) s' views ev k.worn) (λ u p. p) (λ saw. worn_evolves (state_of k.m k.g) s' ev (worn saw));
-      cut = cut_stays views id v w at k.m.epoch k.cut cuts admitted;
-      acting = each_stays views id v w at ActsAsPass k.acting (λ _ z. absurd (omega (arith, z, ap is_counted role, ap is_counted passing)));
+      changes = λ n y none. pending n y ∙ k.changes n y (omega (arith, none, total-set (λ u. changing n y u.doing) views id v w at));
+      doing = each_stays views id v w at (λ u. DoingOk s' u.doing) (doings_stay (state_of k.m k.g) s' views k.doing (λ j u there n x. moves.2 n (clear j u there n x))) (λ p. p);
+      held = each_stays views id v w at HoldsIts k.held (λ p. p);
+      present = each_stays views id v w at (KnowsEpoch k.m.epoch) k.present (λ p. (p.0, λ z. absurd (omega (arith, z))));
+      reached = each_set {P = λ u. AllLinked k.g.linked u.reached} {Q = λ u. AllLinked b.linked u.reached} views id w k.reached (λ u p. all_linked_grows k.g.linked b.linked ev.linked u.reached p) (all_linked_grows k.g.linked b.linked ev.linked v.reached (k.reached id v at));
+      ways = each_set {P = IsOnWay s'} {Q = IsOnWay s'} views id w (ways_evolve (state_of k.m k.g) s' views ev k.history.seen k.ways) (λ u p. p) tt;
+      worn = each_stays views id v w at (KnowsWorn s') (worns_evolve (state_of k.m k.g) s' views ev k.worn) (λ p. p);
+      cut = cut_stays views id v w at k.m.epoch k.cut refl refl;
+      acting = each_stays views id v w at ActsAsPass k.acting (λ _ z. absurd (omega (arith, z, ap is_counted passing)));
       apart = apart;
     }
 

@@ -1,5 +1,5 @@
 -- Steps that write no word, after which a pass knows or has seen more.
-use Rattle.std.proofs.Common.{◌≡◌, ℕ, ◌<◌, List, ◌++◌, get_or, set, sym, ap, ◌∙◌, subst, arith}
+use Rattle.std.proofs.Common.{◌≡◌, ℕ, ◌<◌, List, ◌++◌, get_or, set, sym, ap, ◌∙◌, subst, arith, refl}
 use lib.ListN.{get_elem?}
 use mathlib.Core.Option.{some}
 use Rattle.snap_model.specs.History.{Begins, calls_of}
@@ -35,45 +35,49 @@ use Rattle.snap_steps.proofs.Parts.Uses.{used_stays, cut_stays}
 use Rattle.snap_steps.proofs.Parts.History.{whole_grows}
 use Rattle.snap_steps.specs.Rule.Worn.{KnowsWorn}
 
--- a step that writes no word, after which the pass has seen more
+-- the view v, in what such a step may change, as w is
+abbrev pub with_sight : View → View → View
+with_sight v w = record v { steps = w.steps; seen = w.seen; joined = w.joined; notes = w.notes; handed = w.handed; epochs = w.epochs; worn = w.worn; knows = w.knows; reached = w.reached; reads = w.reads; present = w.present }
+
+-- a step that writes no word, after which the pass has seen or knows more
 pub seeing : (about : About) (words : List ℕ) (views : List View) (k : Kept about words views) (i id : ℕ) (v w : View) (at : get_elem? views id ≡ some v)
-    → KnowsAbout about w → w.who ≡ v.who → w.role ≡ v.role → w.admitted ≡ v.admitted → w.mine ≡ v.mine → w.stage ≡ v.stage → w.uses ≡ v.uses → w.drawn ≡ v.drawn → w.own ≡ v.own → w.wrote ≡ v.wrote → w.holds ≡ v.holds → w.doing ≡ v.doing → KnowsRows k.m.rows w → AllLinked k.g.linked w.reached → IsOnWay (state_of k.m k.g) w → KnowsEpoch k.m.epoch w → KnowsHeader k.m.next k.m.epoch w → KnowsWorn (state_of k.m k.g) w → w.cuts ≡ v.cuts
-    → Begins v.seen w.seen → Begins w.seen k.g.history → AllBegin w.joined k.g.history → Kept about (set words i (get_or words i 0)) (set views id w)
-seeing about words views k i id v w at knows who role admitted mine stage uses drawn own_same wrote holds doing knows_rows reached way present notes worn cuts more less joined =
-    let same : numbers w ≡ numbers v = λ j. own_number (role j) (who j) ++ numbers_of (admitted j) in record {
+    → AreFacts k.m.rows v.holds w.knows → AllLinked k.g.linked w.reached → IsOnWay (state_of k.m k.g) w → KnowsEpoch k.m.epoch (with_sight v w) → KnowsHeader k.m.next k.m.epoch w → KnowsWorn (state_of k.m k.g) w
+    → Begins v.seen w.seen → Begins w.seen k.g.history → AllBegin w.joined k.g.history → Kept about (set words i (get_or words i 0)) (set views id (with_sight v w))
+seeing about words views k i id v w at knows_rows reached way present notes worn more less joined =
+    let u : View = with_sight v w in record {
       m = k.m;
       g = k.g;
       memory = loaded k.memory i;
-      about_known = each_stays views id v w at (KnowsAbout about) k.about_known (λ p. knows);
-      named = named_stays views id v w at about.passes k.named who role admitted;
+      about_known = each_stays views id v u at (KnowsAbout about) k.about_known (λ p. p);
+      named = named_stays views id v u at about.passes k.named refl refl refl;
       history = record {
         legal = k.history.legal;
-        seen = each_stays views id v w at (IsIn k.g.history) k.history.seen (λ p. (less, joined));
-        longest = omega (arith, k.history.longest, whole_grows k.g.history v w role (begins_length v.seen w.seen more) (begins_length w.seen k.g.history less), total-set (whole k.g.history) views id v w at);
-        mine = each_stays views id v w at (IsTrueOf k.g.history) k.history.mine (λ p. (
-          (λ e. let q = p.0 (ap is_counted (sym role) ∙ e) in (mine ∙ q.0 ∙ ap (calls_of k.g.history) (sym who), of_between v.seen w.seen k.g.history w.who more less (ap (calls_of v.seen) who ∙ q.1 ∙ ap (calls_of k.g.history) (sym who)))),
-          subst (AreTheirs k.g.history) (sym admitted) p.1,
-          subst (AreTheirs w.seen) (sym admitted) (theirs_between v.seen w.seen k.g.history v.admitted more less p.1 p.2),
+        seen = each_stays views id v u at (IsIn k.g.history) k.history.seen (λ p. (less, joined));
+        longest = omega (arith, k.history.longest, whole_grows k.g.history v u refl (begins_length v.seen w.seen more) (begins_length w.seen k.g.history less), total-set (whole k.g.history) views id v u at);
+        mine = each_stays views id v u at (IsTrueOf k.g.history) k.history.mine (λ p. (
+          (λ e. let q = p.0 e in (q.0, of_between v.seen w.seen k.g.history v.who more less q.1)),
+          p.1,
+          theirs_between v.seen w.seen k.g.history v.admitted more less p.1 p.2,
         ));
-        others = λ i none. k.history.others i (omega (arith, none, ap (times i) same, total-set (names i) views id v w at));
+        others = λ i none. k.history.others i (omega (arith, none, total-set (names i) views id v u at));
       };
-      counted = record { all = omega (arith, k.counted.all, ap owes_count stage, total-set (λ u. owes_count u.stage) views id v w at); few = omega (arith, k.counted.few, ap has_counted stage, total-set (λ u. has_counted u.stage) views id v w at) };
-      drawn = drawn_stays views id v w at k.m.next k.m.next k.drawn (omega arith) (λ r. ap (times r) drawn);
-      notes = each_stays views id v w at (KnowsHeader k.m.next k.m.epoch) k.notes (λ _. notes);
-      gated = gated_stays views id v w at k.m.gate k.m.left k.gated stage;
-      used = used_stays views id v w at k.m.gate k.m.epoch k.used stage uses who role admitted;
+      counted = record { all = omega (arith, k.counted.all, total-set (λ x. owes_count x.stage) views id v u at); few = omega (arith, k.counted.few, total-set (λ x. has_counted x.stage) views id v u at) };
+      drawn = drawn_stays views id v u at k.m.next k.m.next k.drawn (omega arith) (λ r. refl);
+      notes = each_stays views id v u at (KnowsHeader k.m.next k.m.epoch) k.notes (λ _. notes);
+      gated = gated_stays views id v u at k.m.gate k.m.left k.gated refl;
+      used = used_stays views id v u at k.m.gate k.m.epoch k.used refl refl refl refl refl;
+      cut = cut_stays views id v u at k.m.epoch k.cut refl refl;
+      acting = each_stays views id v u at ActsAsPass k.acting (λ p. p);
       table = k.table;
-      writers = omega (arith, k.writers, total-set (λ u. in_write u.stage) views id v w at, ap in_write stage);
-      changes = λ n d none. k.changes n d (omega (arith, none, ap (changing n d) doing, total-set (λ u. changing n d u.doing) views id v w at));
-      doing = each_stays views id v w at (λ u. DoingOk (state_of k.m k.g) u.doing) k.doing (λ p. subst (DoingOk (state_of k.m k.g)) (sym doing) p);
-      held = each_stays views id v w at HoldsIts k.held (λ p n c. subst (λ (l : List ℕ). 0 < times n l) (sym holds) (p n (subst (λ x. Concerns x n) doing c)));
-      present = each_stays views id v w at (KnowsEpoch k.m.epoch) k.present (λ p. present);
-      locked = locked_stays views id v w at k.m.rows k.locked holds who (λ r. omega (arith, k.locked.writing id v at r, ap in_write stage, ap (times r) holds));
-      known = each_stays views id v w at (KnowsRows k.m.rows) k.known (λ p. knows_rows);
-      reached = each_stays views id v w at (λ u. AllLinked k.g.linked u.reached) k.reached (λ p. reached);
-      ways = each_stays views id v w at (IsOnWay (state_of k.m k.g)) k.ways (λ p. way);
-      worn = each_stays views id v w at (KnowsWorn (state_of k.m k.g)) k.worn (λ _. worn);
-      cut = cut_stays views id v w at k.m.epoch k.cut cuts admitted;
-      acting = each_stays views id v w at ActsAsPass k.acting (λ p z. let q = p (ap is_counted (sym role) ∙ z) in (stage ∙ q.0, cuts ∙ q.1));
-      apart = apart_stays views id v w at k.m.next k.m.next k.m.rows k.g.linked k.apart (omega arith) (λ p r l. let q = p r (omega (arith, l, ap (times r) own_same)) in (q.0, omega (arith, q.1, ap (times r) drawn))) (λ p. subst (λ l. AreFacts k.m.rows w.own l) (sym wrote) (subst (λ l. AreFacts k.m.rows l v.wrote) (sym own_same) p));
+      writers = omega (arith, k.writers, total-set (λ x. in_write x.stage) views id v u at);
+      changes = λ n d none. k.changes n d (omega (arith, none, total-set (λ x. changing n d x.doing) views id v u at));
+      doing = each_stays views id v u at (λ x. DoingOk (state_of k.m k.g) x.doing) k.doing (λ p. p);
+      held = each_stays views id v u at HoldsIts k.held (λ p. p);
+      present = each_stays views id v u at (KnowsEpoch k.m.epoch) k.present (λ _. present);
+      locked = locked_stays views id v u at k.m.rows k.locked refl refl (k.locked.writing id v at);
+      known = each_stays views id v u at (KnowsRows k.m.rows) k.known (λ _. knows_rows);
+      reached = each_stays views id v u at (λ x. AllLinked k.g.linked x.reached) k.reached (λ _. reached);
+      ways = each_stays views id v u at (IsOnWay (state_of k.m k.g)) k.ways (λ _. way);
+      worn = each_stays views id v u at (KnowsWorn (state_of k.m k.g)) k.worn (λ _. worn);
+      apart = apart_stays views id v u at k.m.next k.m.next k.m.rows k.g.linked k.apart (omega arith) (λ p. p) (λ p. p);
     }

@@ -1,5 +1,5 @@
 -- Loads of a row's words and stores in own rows keep the rule.
-use Rattle.std.proofs.Common.{◌≡◌, ℕ, ◌≤◌, nat_lt, ◌∷◌, get_or, sym, refl, ◌∙◌, arith, ◌≢◌, ◌<◌, length, ap, ⊎_elim}
+use Rattle.std.proofs.Common.{◌≡◌, ℕ, ◌≤◌, nat_lt, ◌∷◌, get_or, sym, refl, ◌∙◌, arith, ◌≢◌, ◌<◌, length, ap, ⊎_elim, ◌⊎◌}
 use Rattle.std.proofs.lemmas.Bool.{cond_both}
 use Rattle.std.proofs.lemmas.Bool.Decides.{nat_tests}
 use lib.ListN.{get_elem?}
@@ -58,9 +58,9 @@ reads about slots id me r f low s k wide at small =
       w,
       keeps,
       tt,
-      seeing about s.words s.views k (word_at r f) id v w at (k.about_known id v at) refl refl refl refl refl refl refl refl refl refl refl facts
+      seeing about s.words s.views k (word_at r f) id v w at facts
           (in_append k.g.linked v.reached (led_to v r f found) (k.reached id v at) (led_in k.m k.g v r f found k.table (k.reached id v at) (sym is))) (k.ways id v at) (k.present id v at)
-          (k.notes id v at) worn refl (begins_itself v.seen) seen.0 seen.1,
+          (k.notes id v at) worn (begins_itself v.seen) seen.0 seen.1,
       λ r' f' same. let t = one_word r r' f f' same in ((λ i. (read v (t.0 i) (t.1 i) found, me.1)), λ x there. is ∙ (λ i. field (t.1 i) (row k.m.rows (t.0 i))) ∙ known_is k.m.rows v.holds v.knows r' f' x known there),
     )
 

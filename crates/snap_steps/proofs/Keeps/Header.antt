@@ -1,5 +1,5 @@
 -- Loads of the header keep the rule.
-use Rattle.std.proofs.Common.{◌≡◌, ℕ, get_or, refl, ap, arith, ◌/◌, ◌<◌, ⊎_elim, [], ◌∷◌, ◌++◌, set, sym, subst}
+use Rattle.std.proofs.Common.{◌≡◌, ℕ, get_or, refl, ap, arith, ◌/◌, ◌<◌, ⊎_elim, [], ◌∷◌, ◌++◌, set, sym, subst, ◌⊎◌}
 use mathlib.Core.Logic.{dite}
 use mathlib.Core.Option.{none}
 use native.Mathlib.Decide.{dec_le}
@@ -67,7 +67,7 @@ loads_done about slots id me passing alone s k wide at small =
       w,
       keeps,
       tt,
-      seeing about s.words s.views k 3 id v w at (k.about_known id v at) refl refl refl refl refl refl refl refl refl refl refl (k.known id v at) (k.reached id v at) tt (k.present id v at) (header_more k.m.next k.m.epoch v (Done r) (k.notes id v at) tt) (k.worn id v at) refl seen (begins_itself k.g.history) (subst (λ l. AllBegin l k.g.history) (sym alone) tt),
+      seeing about s.words s.views k 3 id v w at (k.known id v at) (k.reached id v at) tt (k.present id v at) (header_more k.m.next k.m.epoch v (Done r) (k.notes id v at) tt) (k.worn id v at) seen (begins_itself k.g.history) (subst (λ l. AllBegin l k.g.history) (sym alone) tt),
       (k.g.history, record { goes_on = seen; legal = k.history.legal; own = sym own.0 }, omega (arith, k.counted.all), refl),
     )
 
@@ -77,6 +77,6 @@ loads_epoch about slots id me s k wide at small =
       w,
       keeps,
       tt,
-      seeing about s.words s.views k 4 id v w at (k.about_known id v at) refl refl refl refl refl refl refl refl refl refl refl (k.known id v at) (k.reached id v at) (k.ways id v at) (epoch_with v.stage k.m.epoch r v.present is (k.present id v at)) (header_more k.m.next k.m.epoch v (Epoch r) (k.notes id v at) (omega arith)) (k.worn id v at) refl (begins_itself v.seen) seen.0 seen.1,
+      seeing about s.words s.views k 4 id v w at (k.known id v at) (k.reached id v at) (k.ways id v at) (epoch_with v.stage k.m.epoch r v.present is (k.present id v at)) (header_more k.m.next k.m.epoch v (Epoch r) (k.notes id v at) (omega arith)) (k.worn id v at) (begins_itself v.seen) seen.0 seen.1,
       refl,
     )

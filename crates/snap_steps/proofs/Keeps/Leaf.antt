@@ -33,7 +33,7 @@ use Rattle.snap_steps.specs.States.{link_field, with_word, state_of}
 use Rattle.snap_steps.specs.Counting.{times, removed}
 use Rattle.snap_steps.specs.Memory.{Row, field, with_field, row}
 use Rattle.snap_steps.specs.Rule.Changes.{changing}
-use Rattle.snap_steps.specs.Facts.{IsBorn}
+use Rattle.snap_steps.specs.Facts.{IsBorn, forgotten_row, fact, forgotten}
 use Rattle.snap_steps.specs.Steps.Writes.{IsLeaf, IsPlace, hung, entry, leaf_hung}
 use Rattle.snap_steps.specs.Stages.{in_write}
 use Rattle.snap_steps.specs.Roles.{is_counted}
@@ -153,7 +153,7 @@ links_leaf about slots id me r key value parent f low small_key passing writing 
       w,
       keeps,
       tt,
-      entering about s.words s.views k id v w at (set s.words (word_at parent f) r) rows' e b false away (cell_set k.memory parent f low r) passing writing refl refl refl (sym absent) refl refl refl refl refl refl refl (k.notes id v at) refl (k.worn id v at) refl refl refl refl refl refl refl moves (λ n y. refl) refl refl clear
+      entering about s.words s.views k id v at (set s.words (word_at parent f) r) rows' e b (removed r v.own) (forgotten_row v.wrote r) (fact parent f r ∷ forgotten v.knows parent f) away (cell_set k.memory parent f low r) passing writing refl (sym absent) moves (λ n y. refl) clear
           (locks_stay s.views id v at k.m.rows parent x w k.locked (field_other Lock f r (row k.m.rows parent) (λ z. is_lock (sym z))) near refl refl (sym (ap in_write writing)))
           (each_others s.views id v at w (λ j u ne there. facts_elsewhere k.m.rows parent x u.holds u.holds u.knows (k.known j u there) (others_apart s.views id v at k.m.rows parent k.locked place.held j u ne there) (λ y. omega arith))
           (ap (field f) (row_same k.m.rows parent x near) ∙ field_same f r (row k.m.rows parent), place.held, facts_left k.m.rows parent f r v.holds v.knows near known))

@@ -74,7 +74,7 @@ locks about slots id me r new said made counted low up writing free comes s k wi
       missed v,
       keeps,
       tt,
-      seeing about s.words s.views k (word_at r Lock) id v (missed v) at (k.about_known id v at) refl refl refl refl refl refl refl refl refl refl refl (k.known id v at) (k.reached id v at) (k.ways id v at) (k.present id v at) (k.notes id v at) (k.worn id v at) refl (begins_itself v.seen) seen.0 seen.1,
+      seeing about s.words s.views k (word_at r Lock) id v (missed v) at (k.known id v at) (k.reached id v at) (k.ways id v at) (k.present id v at) (k.notes id v at) (k.worn id v at) (begins_itself v.seen) seen.0 seen.1,
       λ r' same. ((λ hit. absurd (miss hit)), λ _. refl),
     ))
 

@@ -28,7 +28,6 @@ use Rattle.snap_steps.proofs.Totals.{total-append, times-append}
 use Rattle.snap_steps.proofs.Parts.Names.{numbers_more, count_more}
 use Rattle.snap_steps.proofs.Prefixes.{begins_itself}
 use Rattle.snap_steps.proofs.Classes.Seeing.{seeing}
-use Rattle.snap_steps.proofs.Notes.{header_joined}
 use Rattle.snap_steps.proofs.Parts.Worn.{or_cases}
 
 pub notes_kept : (about : About) (id : ℕ) (v : View) → v.role ≡ Passing → Splits (Rule about) id v v (note_of v)
@@ -36,14 +35,13 @@ notes_kept about id v passing s k at = subst (λ (l : List View). Kept about s.w
 
 pub learns : (about : About) (id : ℕ) (v : View) (other : ℕ) (u : View) → v.role ≡ Passing → IsNote u → Joins (Rule about) id v other u (learned v u) gone
 learns about id v other u passing is s k at apart there =
-    let idle : u.stage ≡ Idle = ap (λ (x : View). x.stage) is in let role : u.role ≡ Noting = ap (λ (x : View). x.role) is in let empty : u.admitted ≡ [] = ap (λ (x : View). x.admitted) is in let unused : u.uses ≡ 0 = ap (λ (x : View). x.uses) is in
+    let idle : u.stage ≡ Idle = ap (λ (x : View). x.stage) is in let not_opening : is_opening u.role ≡ 0 = ap (λ (x : View). is_opening x.role) is in
     let none_named : (i : ℕ) → names i u ≡ 0 = λ i. ap (λ (x : View). names i x) is in
     let none_used : all_uses u ≡ 0 = ap all_uses is in let none_cut : all_cuts u ≡ 0 = ap all_cuts is in
-    let not_opening : is_opening u.role ≡ 0 = ap is_opening role in let cuts : all_cuts (learned v u) ≡ all_cuts v + all_cuts u = omega arith in
     let theirs = k.history.mine id v at in
     let before_u = before s.views id v (learned v u) at other u gone apart there in
     let long = longer_begins v.seen u.seen k.g.history (k.history.seen id v at).0 (k.history.seen other u before_u).0 in
-    joining about s.words s.views k id v (learned v u) at other u apart there refl refl refl refl passing refl idle (header_joined k.m.next k.m.epoch v u (k.notes id v at) (k.notes other u before_u)) (λ saw. ⊎_elim (k.worn id v at) (k.worn other u before_u) (or_cases v.worn u.worn saw)) not_opening cuts refl refl refl refl refl refl refl refl refl refl refl refl (λ i. omega (arith, none_named i)) (omega arith) (k.used.few id v at)
+    joining about s.words s.views k id v at other u apart v.admitted there passing not_opening idle (λ i. omega (arith, none_named i)) (omega arith) (omega arith) (k.used.few id v at)
     theirs.1 (theirs_between v.seen (longer v.seen u.seen) k.g.history v.admitted long.1 long.0 theirs.1 theirs.2)
 
 pub admits : (about : About) (id : ℕ) (v : View) (other : ℕ) (u : View) → v.role ≡ Passing → u.role ≡ Passing → u.stage ≡ Idle → Joins (Rule about) id v other u (took v u) gone
@@ -62,9 +60,10 @@ admits about id v other u passing theirs_too idle s k at apart there =
     let cuts : all_cuts b ≡ all_cuts v + all_cuts u = omega (arith, total-append (λ (x : Admitted). length x.cuts) v.admitted (admitted_of u ∷ u.admitted)) in
     let at_u : AreTheirs k.g.history (admitted_of u ∷ u.admitted) = (own.0, hers.1) in
     let begins_u : Begins (longer v.seen u.seen) k.g.history = long.0 in
-    joining about s.words s.views k id v b at other u apart there refl refl refl refl passing refl idle (header_joined k.m.next k.m.epoch v u (k.notes id v at) (k.notes other u before_u)) (λ saw. ⊎_elim (k.worn id v at) (k.worn other u before_u) (or_cases v.worn u.worn saw)) not_opening cuts refl refl refl refl refl refl refl refl refl refl refl refl
+    joining about s.words s.views k id v at other u apart (v.admitted ++ admitted_of u ∷ u.admitted) there passing not_opening idle
     (λ i. omega (arith, times-append i (own_number v.role v.who) (numbers_of b.admitted), times-append i (own_number v.role v.who) (numbers_of v.admitted), times-append i (own_number u.role u.who) (numbers_of u.admitted), ap (times i) one_u, numbers_more i v.admitted (admitted_of u ∷ u.admitted)))
     (omega (arith, uses))
+    cuts
     (few_v.0, omega (arith, few_v.1, few_u.0, few_u.1, uses, count_more v.admitted (admitted_of u ∷ u.admitted), ap length one_u))
     (theirs_more k.g.history v.admitted (admitted_of u ∷ u.admitted) mine.1 at_u)
     (theirs_more (longer v.seen u.seen) v.admitted (admitted_of u ∷ u.admitted) (theirs_between v.seen (longer v.seen u.seen) k.g.history v.admitted long.1 long.0 mine.1 mine.2)
@@ -76,6 +75,6 @@ makes_sure about slots id me passing shorter s k wide at small =
       w,
       keeps,
       tt,
-      seeing about s.words s.views k 0 id v w at (k.about_known id v at) refl refl refl refl refl refl refl refl refl refl refl (k.known id v at) (k.reached id v at) (k.ways id v at) (k.present id v at) (k.notes id v at) (k.worn id v at) refl (begins_itself v.seen) seen.0 tt,
+      seeing about s.words s.views k 0 id v w at (k.known id v at) (k.reached id v at) (k.ways id v at) (k.present id v at) (k.notes id v at) (k.worn id v at) (begins_itself v.seen) seen.0 tt,
       (refl, all_begin k.g.history v.seen v.joined seen.0 seen.1 shorter, legal_begin v.seen k.g.history seen.0 k.history.legal, own.1 ∙ sym own.0),
     )

@@ -16,7 +16,7 @@ use Rattle.snap_stamp.specs.Layout.{word_at}
 use Rattle.snap_stamp.specs.declared.layout.Field.TheVariants.{Key, Value}
 use Rattle.snap_steps.specs.Counting.{times}
 use Rattle.snap_steps.specs.Memory.{Row, with_field, row}
-use Rattle.snap_steps.specs.Facts.{IsBorn, IsKnown}
+use Rattle.snap_steps.specs.Facts.{IsBorn, IsKnown, fact, forgotten}
 use Rattle.snap_steps.specs.Steps.Writes.{stored, call_of, entry, value_stored, made_entry, absent_confirmed, counted_one, done_counted}
 use Rattle.snap_steps.specs.Stages.{in_write, is_closing, is_quiet, may_cut, owes_count, has_counted}
 use Rattle.snap_steps.specs.Roles.{is_counted}
@@ -70,7 +70,7 @@ stores about slots id me r key new low passing writing held reached key_known bo
       w,
       keeps,
       tt,
-      entering about s.words s.views k id v w at (set s.words (word_at r Value) new) rows' e b false Anywhere (cell_set k.memory r Value low new) passing writing refl refl refl reply refl refl refl refl refl refl refl (k.notes id v at) refl (k.worn id v at) refl refl refl refl refl refl refl moves (λ n d. refl) refl refl (λ j u there n c. tt)
+      entering about s.words s.views k id v at (set s.words (word_at r Value) new) rows' e b v.own v.wrote (fact r Value new ∷ forgotten v.knows r Value) Anywhere (cell_set k.memory r Value low new) passing writing refl reply moves (λ n d. refl) (λ j u there n c. tt)
           (locks_stay s.views id v at k.m.rows r x w k.locked refl near refl refl (sym (ap in_write writing)))
           (each_others s.views id v at w (λ j u ne there. facts_elsewhere k.m.rows r x u.holds u.holds u.knows (k.known j u there) (others_apart s.views id v at k.m.rows r k.locked held j u ne there) (λ y. omega arith))
           (ap (λ (y : Row). y.value) (row_same k.m.rows r x near), held, facts_left k.m.rows r Value new v.holds v.knows near (k.known id v at)))
@@ -103,7 +103,7 @@ confirms about slots id me r key low passing writing reached key_known value_kno
       w,
       keeps,
       tt,
-      entering about s.words s.views k id v w at (set s.words (word_at r Value) (get_or s.words (word_at r Value) 0)) k.m.rows e k.g false Anywhere (loaded k.memory (word_at r Value)) passing writing refl refl refl (sym none_there) refl refl refl refl refl refl refl (k.notes id v at) refl (k.worn id v at) refl refl refl refl refl refl refl moves (λ n d. refl) refl refl (λ j u there n c. tt)
+      entering about s.words s.views k id v at (set s.words (word_at r Value) (get_or s.words (word_at r Value) 0)) k.m.rows e k.g v.own v.wrote v.knows Anywhere (loaded k.memory (word_at r Value)) passing writing refl (sym none_there) moves (λ n d. refl) (λ j u there n c. tt)
           (locked_stays s.views id v w at k.m.rows k.locked refl refl (λ x. omega (arith, k.locked.writing id v at x, ap in_write writing)))
           (each_stays s.views id v w at (KnowsRows k.m.rows) k.known (λ p. p))
           (apart_stays s.views id v w at k.m.next k.m.next k.m.rows k.g.linked k.apart (omega arith) (λ p. p) (λ p. p)),

@@ -1,14 +1,14 @@
 -- Stamps at their greatest count, once the table has evolved.
 use Rattle.std.proofs.Common.{◌≡◌, ℕ, List, arith, inr, Bool, ap, false, inl, refl, true, ◌≤◌, ◌⊎◌, ◌||◌}
 use Rattle.snap_rule.specs.Evolves.{Evolves}
-use Rattle.snap_rule.specs.State.{State as Table}
+use Rattle.snap_rule.specs.State.{State as Table, In}
 use Rattle.snap_steps.specs.declared.view.View.{View}
 use Rattle.snap_steps.specs.Each.{Each}
 use Rattle.snap_steps.specs.Rule.Worn.{IsWorn, KnowsWorn}
 use Rattle.snap_steps.specs.Steps.Fields.{is_last}
 use Rattle.snap_stamp.specs.Stamps.{last_count, count_of}
 use Rattle.snap_steps.specs.States.{state_of}
-use Rattle.snap_steps.proofs.Tables.{times_in}
+use Rattle.snap_steps.proofs.Tables.{times_in, in_times}
 use Rattle.snap_steps.specs.declared.rule.About.{About}
 use Rattle.snap_stamp.specs.declared.layout.Field.{Field}
 use Rattle.snap_steps.specs.Rule.{Kept}
@@ -20,7 +20,7 @@ use native.Mathlib.Decide.{ℕ_discrete}
 use Rattle.snap_stamp.specs.declared.layout.Field.TheVariants.{Key, Birth, Stamp, Lock, Height, Left, Right, Value}
 
 pub worn_evolves : (s s' : Table) → Evolves s s' → IsWorn s → IsWorn s'
-worn_evolves s s' ev h = record { row = h.row; linked = ev.linked h.row h.linked; last = omega (arith, h.last, ev.stamp h.row (inr h.linked)) }
+worn_evolves s s' ev h = let was : In h.row s.linked = times_in h.row s.linked h.linked in record { row = h.row; linked = in_times h.row s'.linked (ev.linked h.row was); last = omega (arith, h.last, ev.stamp h.row (inr was)) }
 
 pub worns_evolve : (s s' : Table) (views : List View) → Evolves s s' → Each (KnowsWorn s) views → Each (KnowsWorn s') views
 worns_evolve s s' views ev h j u at seen = worn_evolves s s' ev (h j u at seen)
@@ -36,7 +36,7 @@ last_found about words views k r Stamp x is last =
     record {
       row = r;
       linked = dite (ℕ_discrete r 0) (λ z. absurd (omega (arith, top, is, ap (λ (n : ℕ). (row k.m.rows n).stamp) z, k.table.links.zero_stamp)))
-          (λ nz. dite (ℕ_discrete (times r k.g.linked) 0) (λ none. absurd (omega (arith, top, is, (k.apart.fresh r (omega arith) none).1))) (λ some. times_in r k.g.linked (omega arith)));
+          (λ nz. dite (ℕ_discrete (times r k.g.linked) 0) (λ none. absurd (omega (arith, top, is, (k.apart.fresh r (omega arith) none).1))) (λ some. omega arith));
       last = omega (arith, top, is);
     }
 last_found about words views k r Key x is last = cc

@@ -5,7 +5,7 @@ use Rattle.snap_rule.specs.declared.change.Doing.{Doing}
 use Rattle.snap_rule.specs.declared.change.Doing.TheVariants.{Nothing, Unlinked, Shrunk, Lowered, Lifted, Turned}
 use Rattle.snap_stamp.specs.Sides.{other}
 use Rattle.snap_stamp.specs.declared.side.Side.{Side}
-use Rattle.snap_steps.specs.Counting.{one_if, times}
+use Rattle.snap_steps.specs.Counting.{one_if, times, Among}
 use Rattle.snap_steps.specs.declared.view.View.{View}
 use Rattle.snap_stamp.specs.declared.side.Side.TheVariants as sides
 use Rattle.snap_steps.specs.Memory.{row}
@@ -28,4 +28,4 @@ changing n d (Turned row) = 0
 
 -- a pass holds the rows of the change that it is in
 abbrev pub HoldsIts : View → Type 0
-HoldsIts v = (n : ℕ) → Concerns v.doing n → 0 < times n v.holds
+HoldsIts v = (n : ℕ) → Concerns v.doing n → Among n v.holds

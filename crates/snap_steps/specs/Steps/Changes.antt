@@ -5,7 +5,7 @@ use Rattle.snap_rule.specs.declared.change.Doing.TheVariants.{Shrunk}
 use Rattle.snap_stamp.specs.declared.layout.Field.TheVariants.{Stamp}
 use Rattle.snap_stamp.specs.declared.side.Side.{Side}
 use Rattle.snap_steps.specs.declared.view.View.{View}
-use Rattle.snap_steps.specs.Counting.{times}
+use Rattle.snap_steps.specs.Counting.{times, Among}
 use Rattle.snap_steps.specs.States.{link_field}
 use Rattle.snap_steps.specs.Facts.{IsKnown, IsBorn, forgotten, fact}
 use Rattle.snap_steps.specs.Steps.Told.{Sat, Has}
@@ -14,13 +14,13 @@ use Rattle.snap_steps.specs.Memory.{row}
 
 -- a row, its parent and its child that is to be raised: all held, born and joined so
 pub record IsTurn (v : View) (parent : ℕ) (p : Side) (r : ℕ) (d : Side) (raised : ℕ) : Type 0 where
-  pub held_parent : 0 < times parent v.holds
-  pub held : 0 < times r v.holds
-  pub held_raised : 0 < times raised v.holds
-  pub parent_born : ((parent ≡ 0) × (p ≡ sides.Right)) ⊎ ((0 < times parent v.reached) × IsBorn v parent)
-  pub reached : 0 < times r v.reached
+  pub held_parent : Among parent v.holds
+  pub held : Among r v.holds
+  pub held_raised : Among raised v.holds
+  pub parent_born : ((parent ≡ 0) × (p ≡ sides.Right)) ⊎ ((Among parent v.reached) × IsBorn v parent)
+  pub reached : Among r v.reached
   pub born : IsBorn v r
-  pub raised_reached : 0 < times raised v.reached
+  pub raised_reached : Among raised v.reached
   pub raised_born : IsBorn v raised
   pub child : IsKnown v.knows parent (link_field p) r
   pub raised_child : IsKnown v.knows r (link_field d) raised

@@ -14,7 +14,7 @@ use Rattle.snap_stamp.specs.declared.side.Side.{Side}
 use Rattle.snap_steps.specs.declared.view.View.{View}
 use Rattle.snap_steps.specs.declared.view.Stage.TheVariants.{Writing}
 use Rattle.snap_steps.specs.Facts.{forgotten, fact, IsKnown, IsBorn, forgotten_row}
-use Rattle.snap_steps.specs.Counting.{times, removed}
+use Rattle.snap_steps.specs.Counting.{times, removed, Among}
 use Rattle.snap_steps.specs.States.{link_field}
 use Rattle.snap_steps.specs.Steps.Told.{Sat, Has}
 use Rattle.snap_steps.specs.Histories.{Enters}
@@ -39,7 +39,7 @@ made_entry v log e = record v { reads = Resting; seen = log ++ e ∷ []; mine = 
 
 -- what was stored in the row makes it a leaf of this epoch
 pub record IsLeaf (v : View) (r a_key a_value : ℕ) : Type 0 where
-  pub own : 0 < times r v.own
+  pub own : Among r v.own
   pub key : IsKnown v.wrote r Key a_key
   pub value : IsKnown v.wrote r Value (suc a_value)
   pub height : IsKnown v.wrote r Height 1
@@ -47,11 +47,11 @@ pub record IsLeaf (v : View) (r a_key a_value : ℕ) : Type 0 where
   pub right : IsKnown v.wrote r Right 0
   pub birth : ℕ
   pub is_birth : IsKnown v.wrote r Birth birth
-  pub now : 0 < times birth v.present
+  pub now : Among birth v.present
 
 -- the way of the key ends below the held row: its stamp is as the pass found it, and its link is 0
 pub record IsPlace (v : View) (key parent : ℕ) (f : Field) : Type 0 where
-  pub held : 0 < times parent v.holds
+  pub held : Among parent v.holds
   pub stamp : ℕ
   pub side : Side
   pub way : (v.reads ≡ On key (Standing parent stamp side)) ⊎ (v.reads ≡ On key (NoLink parent stamp side))
