@@ -22,6 +22,7 @@ use Rattle.snap_stamp.specs.Layout.{word_at}
 use Rattle.snap_stamp.specs.declared.layout.Field.{Field}
 use Rattle.snap_stamp.specs.declared.layout.Field.TheVariants.{Key}
 use Rattle.snap_stamp.specs.declared.side.Side.{Side}
+use Rattle.snap_steps.specs.Counting.{Among}
 use Rattle.snap_steps.specs.States.{state_of, link_field}
 use Rattle.snap_steps.specs.Steps.Header.{noted}
 use Rattle.snap_steps.specs.Steps.Way.{set_out_for, goes_on, led_by, comes_to, way_begun, next_point, IsNext, BoundAt, last_point, read_on, next_read, Answers, IsLast, settled_at, ends_at, HasAnswer, answer_read}
@@ -133,9 +134,9 @@ comes_in m g ok seen k (Standing n v d) r f (suc c) h at is = (go (ok.links.link
     word : word_of m n (link_field d) ≡ suc c
     word = (λ i. word_of m (sym at.0 i) (sym at.1 i)) ∙ is
 
-    go : (word_of m n (link_field d) ≡ 0) ⊎ In (word_of m n (link_field d)) g.linked → In (suc c) g.linked
+    go : (word_of m n (link_field d) ≡ 0) ⊎ In (word_of m n (link_field d)) g.linked → Among (suc c) g.linked
     go (inl z) = absurd (omega (arith, z, word))
-    go (inr q) = subst (λ (y : ℕ). In y g.linked) word q
+    go (inr q) = in_times (suc c) g.linked (subst (λ (y : ℕ). In y g.linked) word q)
 comes_in m g ok seen k (NoLink n v d) r f x h at is = tt
 comes_in m g ok seen k (Linked n v d c) r f x h at is = tt
 comes_in m g ok seen k (Stamped n v d c w) r f x h at is = tt
