@@ -1,0 +1,45 @@
+//! The locks of rows: waiting for one, and freeing it.
+#![tactic(auto)]
+
+ghost use Rattle.std.specs.Prelude.{◌≡◌, ◌⊎◌, ◌<◌, ◌≤◌, Bool};
+ghost use Rattle.snap_locks.specs.Held.{HasLocked};
+ghost use Rattle.snap_rule.specs.declared.change.Doing.TheVariants.{Nothing};
+ghost use Rattle.snap_steps.specs.Counting.{times};
+ghost use Rattle.snap_steps.specs.Seen.{IsOf, Becomes};
+ghost use Rattle.snap_steps.specs.Steps.Locks.{unlocked};
+ghost use Rattle.snap_steps.specs.declared.view.Stage.TheVariants.{Writing};
+
+use snap_stamp::RowNo;
+use snap_steps::{Pass, Rows, free_lock, try_lock};
+use std::sync::Wait;
+
+/// Waits until the pass holds row 0, or a row that it has reached. What else it knows is unchanged.
+pub fn lock<R: Wait>(rows: &Rows, rt: &R, pass: &mut Pass, row: RowNo)
+    requires table { IsOf pass.old rows.now }
+    requires row { row ≤ rows.now.rows }
+    requires writing { (made : Bool) × (counted : Bool) × (pass.old.view.stage ≡ Writing made counted) }
+    requires free { times row pass.old.view.holds ≡ 0 }
+    requires reached { (row ≡ 0) ⊎ (0 < times row pass.old.view.reached) }
+    ensures { HasLocked pass.old pass.new row }
+{
+    for _ in rt.forever() {
+        if try_lock(rows, pass, row) {
+            return;
+        }
+    }
+    unreachable!()
+}
+
+/// Frees a row that the pass holds, and forgets what it knew by the lock.
+pub fn unlock(rows: &Rows, pass: &mut Pass, row: RowNo)
+    requires table { IsOf pass.old rows.now }
+    requires row { row ≤ rows.now.rows }
+    requires held { 0 < times row pass.old.view.holds }
+    requires whole { pass.old.view.doing ≡ Nothing }
+    ensures { Becomes pass.old pass.new (unlocked pass.old.view row) }
+{
+    free_lock(rows, pass, row);
+}
+
+#[cfg(test)]
+mod tests;

@@ -1,0 +1,28 @@
+//! A lock that one pass holds and another wants.
+use crate::{lock, unlock};
+use snap_stamp::RowNo;
+use snap_steps::{Rows, load_word, try_enter, try_lock};
+use snap_stamp::Field;
+use std::test::Fail;
+
+#[test]
+fn a_held_row_is_refused(rt: HostRuntime) -> Result<(), Fail> {
+    let (rows, mut passes) = Rows::open(rt.alloc(), 1, 2)?;
+    let mut q = passes.pop().ok_or("no second pass")?;
+    let mut p = passes.pop().ok_or("no first pass")?;
+    let Ok(()) = try_enter(&rows, &mut p, 0) else {
+        return Err("p does not enter".into());
+    };
+    let Ok(()) = try_enter(&rows, &mut q, 2) else {
+        return Err("q does not enter".into());
+    };
+    lock(&rows, &rt, &mut p, RowNo::HOLDER);
+    assert_eq!(rt; load_word(&rows, &mut q, RowNo::HOLDER, Field::Lock), 1);
+    assert!(rt; !try_lock(&rows, &mut q, RowNo::HOLDER));
+    unlock(&rows, &mut p, RowNo::HOLDER);
+    lock(&rows, &rt, &mut q, RowNo::HOLDER);
+    assert_eq!(rt; load_word(&rows, &mut p, RowNo::HOLDER, Field::Lock), 2);
+    unlock(&rows, &mut q, RowNo::HOLDER);
+    assert_eq!(rt; load_word(&rows, &mut p, RowNo::HOLDER, Field::Lock), 0);
+    Ok(())
+}

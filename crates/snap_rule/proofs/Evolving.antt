@@ -1,0 +1,3 @@
+-- Each kind of step evolves the table.
+pub mod Telling
+pub mod Silent

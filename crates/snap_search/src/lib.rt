@@ -1,0 +1,13 @@
+//! The search for a key beside the writes of other passes. Each step down is validated by stamps that are loaded
+//! again; where a check fails, the search begins again at row 0.
+#![tactic(auto)]
+
+mod down;
+mod reading;
+
+
+pub use reading::get;
+
+
+#[cfg(test)]
+mod tests;

@@ -1,0 +1,54 @@
+ghost use Rattle.std.specs.Prelude.{◌≡◌, ◌↔◌, ℕ, IsTrue};
+
+use std::marker::Model;
+
+/// The number of a row. Row 0 holds a tree's root as its right child and has no key; as a link, 0 names no row.
+/// Contracts see it as its number.
+#[derive(Clone, Copy, Debug, PartialEq, Eq)]
+pub struct RowNo(u32);
+
+impl Model for RowNo {
+    ghost Value = { ℕ };
+
+    ghost view = { λ r. r.0 };
+
+    ghost inverse = { λ n. record { 0 = n } };
+}
+
+impl RowNo {
+    /// The row that holds the root.
+    pub const HOLDER: RowNo = RowNo(0);
+
+    /// The row of this number.
+    pub fn of(number: u32) -> RowNo
+        ensures { result ≡ number }
+    {
+        RowNo(number)
+    }
+
+    /// Its number.
+    pub fn number(self) -> u32
+        ensures { result ≡ self }
+    {
+        self.0
+    }
+
+    /// Whether this is 0: the holder of the root or, as a link, no row.
+    pub fn is_none(self) -> bool
+        ensures { IsTrue result ↔ (self ≡ 0) }
+    {
+        self.0 == 0
+    }
+}
+
+#[cfg(test)]
+mod tests {
+    use super::*;
+
+    #[test]
+    fn the_holder_is_row_zero(rt: HostRuntime) {
+        assert!(rt; RowNo::HOLDER.is_none());
+        assert!(rt; !RowNo::of(3).is_none());
+        assert_eq!(rt; RowNo::of(3).number(), 3);
+    }
+}

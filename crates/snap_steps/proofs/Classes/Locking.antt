@@ -1,0 +1,72 @@
+-- Steps on a lock word.
+use Rattle.std.proofs.Common.{◌≡◌, ◌≢◌, ℕ, ◌<◌, ◌≤◌, List, set, refl, ap, ◌∙◌, arith}
+use lib.ListN.{get_elem?}
+use mathlib.Core.Option.{some}
+use Rattle.snap_rule.specs.Doing.{DoingOk}
+use Rattle.snap_stamp.specs.Layout.{word_at}
+use Rattle.snap_stamp.specs.declared.layout.Field.TheVariants.{Lock}
+use Rattle.snap_steps.specs.Counting.{times}
+use Rattle.snap_steps.specs.Memory.{Row, with_field, row}
+use Rattle.snap_steps.specs.Rule.Changes.{changing, HoldsIts}
+use Rattle.snap_steps.specs.Stages.{in_write, owes_count, has_counted}
+use Rattle.snap_steps.specs.Each.{Each}
+use Rattle.snap_steps.specs.Rule.Notes.{KnowsHeader}
+use Rattle.snap_steps.specs.Rule.Locks.{AreLocked, KnowsRows}
+use Rattle.snap_steps.specs.Rule.Ways.{AllLinked, IsOnWay}
+use Rattle.snap_steps.specs.Rule.Epochs.{KnowsEpoch}
+use Rattle.snap_steps.specs.Rule.{Kept}
+use Rattle.snap_steps.specs.Rule.Words.{KnowsAbout}
+use Rattle.snap_steps.specs.States.{state_of}
+use Rattle.snap_steps.proofs.Tables.{doings_stay, lock_moves, ways_evolve}
+use Rattle.snap_steps.specs.declared.view.View.{View}
+use Rattle.snap_steps.specs.declared.view.Fact.{Fact}
+use Rattle.snap_steps.specs.declared.rule.About.{About}
+use Rattle.snap_steps.proofs.Totals.{total-set, term_le}
+use Rattle.snap_steps.proofs.Cells.{cell_set, changed, row_other}
+use Rattle.snap_steps.proofs.Parts.Apart.{apart_changed}
+use Rattle.snap_steps.proofs.Parts.Drawn.{drawn_stays}
+use Rattle.snap_steps.proofs.EachView.{each_stays}
+use Rattle.snap_steps.proofs.Parts.Gate.{gated_stays}
+use Rattle.snap_steps.proofs.Parts.History.{history_stays}
+use Rattle.snap_steps.proofs.Parts.Names.{named_stays}
+use Rattle.snap_steps.proofs.Parts.Uses.{used_stays, cut_stays}
+use Rattle.snap_steps.specs.Rule.Worn.{KnowsWorn}
+use Rattle.snap_steps.specs.Rule.Names.{ActsAsPass}
+use Rattle.snap_steps.proofs.Parts.Worn.{worns_evolve}
+
+-- a step on a lock word
+pub locking : (about : About) (words : List ℕ) (views : List View) (k : Kept about words views) (id : ℕ) (v : View) (at : get_elem? views id ≡ some v) (r n : ℕ) (low : r ≤ about.rows) (holds : List ℕ) (knows : List Fact)
+    → in_write v.stage ≡ 1 → AreLocked (changed k.m.rows r Lock n) (set views id (record v { holds = holds; knows = knows })) → Each (KnowsRows (changed k.m.rows r Lock n)) (set views id (record v { holds = holds; knows = knows })) → (0 < r → 0 < times r k.g.linked) → HoldsIts (record v { holds = holds; knows = knows })
+    → Kept about (set words (word_at r Lock) n) (set views id (record v { holds = holds; knows = knows }))
+locking about words views k id v at r n low holds knows writing are_locked known is_linked held =
+    let w : View = record v { holds = holds; knows = knows } in let rows' : List Row = changed k.m.rows r Lock n in let wide = k.memory.wide in
+    let some_writer : k.g.writers ≢ 0 = λ z. omega (arith, k.writers, term_le (λ u. in_write u.stage) views id v at) in
+    let moves = lock_moves k.m k.g r n (omega arith) some_writer k.table in
+    record {
+      m = record k.m { rows = rows' };
+      g = k.g;
+      memory = cell_set k.memory r Lock low n;
+      about_known = each_stays views id v w at (KnowsAbout about) k.about_known (λ p. p);
+      named = named_stays views id v w at about.passes k.named refl refl refl;
+      history = history_stays views id v w at k.g.history k.history refl refl refl refl refl refl;
+      counted = record { all = omega (arith, k.counted.all, total-set (λ u. owes_count u.stage) views id v w at); few = omega (arith, k.counted.few, total-set (λ u. has_counted u.stage) views id v w at) };
+      drawn = drawn_stays views id v w at k.m.next k.m.next k.drawn (omega arith) (λ x. refl);
+      notes = each_stays views id v w at (KnowsHeader k.m.next k.m.epoch) k.notes (λ p. p);
+      gated = gated_stays views id v w at k.m.gate k.m.left k.gated refl;
+      used = used_stays views id v w at k.m.gate k.m.epoch k.used refl refl refl refl refl;
+      locked = are_locked;
+      known = known;
+      table = moves.1;
+      writers = omega (arith, k.writers, total-set (λ u. in_write u.stage) views id v w at);
+      changes = λ y d none. k.changes y d (omega (arith, none, total-set (λ u. changing y d u.doing) views id v w at));
+      doing = each_stays views id v w at (λ u. DoingOk (state_of (record k.m { rows = rows' }) k.g) u.doing) (doings_stay (state_of k.m k.g) (state_of (record k.m { rows = rows' }) k.g) views k.doing (λ j u there y c. moves.2 y tt)) (λ p. p);
+      held = each_stays views id v w at HoldsIts k.held (λ p. held);
+      present = each_stays views id v w at (KnowsEpoch k.m.epoch) k.present (λ p. p);
+      reached = each_stays views id v w at (λ u. AllLinked k.g.linked u.reached) k.reached (λ p. p);
+      ways = each_stays views id v w at (IsOnWay (state_of (record k.m { rows = rows' }) k.g)) (ways_evolve (state_of k.m k.g) (state_of (record k.m { rows = rows' }) k.g) views moves.0 k.history.seen k.ways) (λ p. p);
+      worn = each_stays views id v w at (KnowsWorn (state_of (record k.m { rows = rows' }) k.g)) (worns_evolve (state_of k.m k.g) (state_of (record k.m { rows = rows' }) k.g) views moves.0 k.worn) (λ p. p);
+      cut = cut_stays views id v w at k.m.epoch k.cut refl refl;
+      acting = each_stays views id v w at ActsAsPass k.acting (λ p. p);
+      apart = apart_changed views id v w at k.m.next k.m.rows k.g.linked k.apart (λ u j there. omega (arith, k.drawn.none_zero, term_le (λ y. times 0 y.drawn) views j u there)) r (with_field Lock n (row k.m.rows r))
+          (λ s pos z ne. let q = row_other k.m.rows r s (with_field Lock n (row k.m.rows r)) ne in let f = k.apart.fresh s pos z in (ap (λ (y : Row). y.lock) q ∙ f.0, ap (λ (y : Row). y.stamp) q ∙ f.1)) is_linked refl refl refl;
+    }

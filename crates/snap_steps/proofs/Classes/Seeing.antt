@@ -1,0 +1,83 @@
+-- Steps that write no word, after which a pass knows or has seen more.
+use Rattle.std.proofs.Common.{◌≡◌, ℕ, ◌<◌, List, ◌++◌, get_or, set, sym, ap, ◌∙◌, subst, arith, refl}
+use lib.ListN.{get_elem?}
+use mathlib.Core.Option.{some}
+use Rattle.snap_model.specs.History.{Begins, calls_of}
+use Rattle.snap_rule.specs.Doing.{Concerns, DoingOk}
+use Rattle.snap_steps.specs.Counting.{times}
+use Rattle.snap_steps.specs.Rule.Changes.{changing, HoldsIts}
+use Rattle.snap_steps.specs.Numbers.{numbers, numbers_of}
+use Rattle.snap_steps.specs.Roles.{own_number, is_counted}
+use Rattle.snap_steps.specs.Stages.{in_write, owes_count, has_counted}
+use Rattle.snap_steps.specs.Rule.Notes.{KnowsHeader}
+use Rattle.snap_steps.specs.Rule.Names.{names, ActsAsPass}
+use Rattle.snap_steps.specs.Rule.History.{AllBegin, AreTheirs, IsIn, IsTrueOf, whole}
+use Rattle.snap_steps.specs.Facts.{AreFacts}
+use Rattle.snap_steps.specs.Rule.Locks.{KnowsRows}
+use Rattle.snap_steps.specs.Rule.Ways.{AllLinked, IsOnWay}
+use Rattle.snap_steps.specs.Rule.Epochs.{KnowsEpoch}
+use Rattle.snap_steps.specs.Rule.{Kept}
+use Rattle.snap_steps.specs.Rule.Words.{KnowsAbout}
+use Rattle.snap_steps.specs.States.{state_of}
+use Rattle.snap_steps.specs.declared.view.View.{View}
+use Rattle.snap_steps.specs.declared.rule.About.{About}
+use Rattle.snap_steps.proofs.Totals.{total-set}
+use Rattle.snap_steps.proofs.Prefixes.{begins_length}
+use Rattle.snap_steps.proofs.Histories.{of_between, theirs_between}
+use Rattle.snap_steps.proofs.Memories.{loaded}
+use Rattle.snap_steps.proofs.Parts.Apart.{apart_stays}
+use Rattle.snap_steps.proofs.EachView.{each_stays}
+use Rattle.snap_steps.proofs.Parts.Drawn.{drawn_stays}
+use Rattle.snap_steps.proofs.Parts.Names.{named_stays}
+use Rattle.snap_steps.proofs.Parts.Gate.{gated_stays}
+use Rattle.snap_steps.proofs.Parts.Locks.{locked_stays}
+use Rattle.snap_steps.proofs.Parts.Uses.{used_stays, cut_stays}
+use Rattle.snap_steps.proofs.Parts.History.{whole_grows}
+use Rattle.snap_steps.specs.Rule.Worn.{KnowsWorn}
+
+-- the view v, in what such a step may change, as w is
+abbrev pub with_sight : View → View → View
+with_sight v w = record v { steps = w.steps; seen = w.seen; joined = w.joined; notes = w.notes; handed = w.handed; epochs = w.epochs; worn = w.worn; knows = w.knows; reached = w.reached; reads = w.reads; present = w.present }
+
+-- a step that writes no word, after which the pass has seen or knows more
+pub seeing : (about : About) (words : List ℕ) (views : List View) (k : Kept about words views) (i id : ℕ) (v w : View) (at : get_elem? views id ≡ some v)
+    → AreFacts k.m.rows v.holds w.knows → AllLinked k.g.linked w.reached → IsOnWay (state_of k.m k.g) w → KnowsEpoch k.m.epoch (with_sight v w) → KnowsHeader k.m.next k.m.epoch w → KnowsWorn (state_of k.m k.g) w
+    → Begins v.seen w.seen → Begins w.seen k.g.history → AllBegin w.joined k.g.history → Kept about (set words i (get_or words i 0)) (set views id (with_sight v w))
+seeing about words views k i id v w at knows_rows reached way present notes worn more less joined =
+    let u : View = with_sight v w in record {
+      m = k.m;
+      g = k.g;
+      memory = loaded k.memory i;
+      about_known = each_stays views id v u at (KnowsAbout about) k.about_known (λ p. p);
+      named = named_stays views id v u at about.passes k.named refl refl refl;
+      history = record {
+        legal = k.history.legal;
+        seen = each_stays views id v u at (IsIn k.g.history) k.history.seen (λ p. (less, joined));
+        longest = omega (arith, k.history.longest, whole_grows k.g.history v u refl (begins_length v.seen w.seen more) (begins_length w.seen k.g.history less), total-set (whole k.g.history) views id v u at);
+        mine = each_stays views id v u at (IsTrueOf k.g.history) k.history.mine (λ p. (
+          (λ e. let q = p.0 e in (q.0, of_between v.seen w.seen k.g.history v.who more less q.1)),
+          p.1,
+          theirs_between v.seen w.seen k.g.history v.admitted more less p.1 p.2,
+        ));
+        others = λ i none. k.history.others i (omega (arith, none, total-set (names i) views id v u at));
+      };
+      counted = record { all = omega (arith, k.counted.all, total-set (λ x. owes_count x.stage) views id v u at); few = omega (arith, k.counted.few, total-set (λ x. has_counted x.stage) views id v u at) };
+      drawn = drawn_stays views id v u at k.m.next k.m.next k.drawn (omega arith) (λ r. refl);
+      notes = each_stays views id v u at (KnowsHeader k.m.next k.m.epoch) k.notes (λ _. notes);
+      gated = gated_stays views id v u at k.m.gate k.m.left k.gated refl;
+      used = used_stays views id v u at k.m.gate k.m.epoch k.used refl refl refl refl refl;
+      cut = cut_stays views id v u at k.m.epoch k.cut refl refl;
+      acting = each_stays views id v u at ActsAsPass k.acting (λ p. p);
+      table = k.table;
+      writers = omega (arith, k.writers, total-set (λ x. in_write x.stage) views id v u at);
+      changes = λ n d none. k.changes n d (omega (arith, none, total-set (λ x. changing n d x.doing) views id v u at));
+      doing = each_stays views id v u at (λ x. DoingOk (state_of k.m k.g) x.doing) k.doing (λ p. p);
+      held = each_stays views id v u at HoldsIts k.held (λ p. p);
+      present = each_stays views id v u at (KnowsEpoch k.m.epoch) k.present (λ _. present);
+      locked = locked_stays views id v u at k.m.rows k.locked refl refl (k.locked.writing id v at);
+      known = each_stays views id v u at (KnowsRows k.m.rows) k.known (λ _. knows_rows);
+      reached = each_stays views id v u at (λ x. AllLinked k.g.linked x.reached) k.reached (λ _. reached);
+      ways = each_stays views id v u at (IsOnWay (state_of k.m k.g)) k.ways (λ _. way);
+      worn = each_stays views id v u at (KnowsWorn (state_of k.m k.g)) k.worn (λ _. worn);
+      apart = apart_stays views id v u at k.m.next k.m.next k.m.rows k.g.linked k.apart (omega arith) (λ p. p) (λ p. p);
+    }

@@ -1,0 +1,13 @@
+-- Each kind of step keeps the rule.
+pub mod Header
+pub mod Draws
+pub mod Gate
+pub mod Cut
+pub mod Seats
+pub mod Fields
+pub mod Locks
+pub mod Writes
+pub mod Leaf
+pub mod Changes
+pub mod Below
+pub mod Way

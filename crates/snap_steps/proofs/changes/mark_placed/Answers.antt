@@ -1,0 +1,22 @@
+use Rattle.std.proofs.Common.{rules, sym, subst, ap, ◌∙◌, ◌≡◌, ◌+◌, ℕ, ◌<◌, ◌≤◌}
+use mathlib.Core.Option.{none}
+use Rattle.atomic_table.specs.Table.{step, Allows}
+use Rattle.snap_stamp.specs.Layout.{word_at}
+use Rattle.snap_steps.specs.Steps.Changes.{shrinking_stored}
+use Rattle.snap_stamp.specs.declared.layout.Field.TheVariants.{Stamp}
+use Rattle.snap_steps.proofs.Classes.Turning.{Rule}
+use Rattle.snap_steps.proofs.Cells.{word_within}
+use Rattle.snap_steps.proofs.Keeps.Changes.{shrinks}
+use Rattle.snap_steps.proofs.changes.mark_placed.Goals as goal
+
+pub store-requires : goal.store-requires
+store-requires g c =
+    let low : c.args.row ≤ c.rows.inside.table.shared.key.rows = search rules in
+    let near : c.index_of-word.result < c.rows.inside.table.shared.table_id.words = word_within _ _ c.args.row c.rows.inside.rows Stamp c.index_of-word.ensures (search rules) c.rows.invariant.words_are in
+    let row : c.args.row ≡ g.J.Turning.middle = c.requires.turn.2 in (
+      search rules,
+      near,
+      subst (λ (i : ℕ). Allows (Rule c.rows.inside.table.shared.key) c.rows.inside.table.shared.table_id.slots c.pass.inside.seat.id c.pass.inside.seat.me i (λ _. c.args.stamp + 2) (λ _. shrinking_stored g.J.Turning.upper g.J.Turning.upper_side g.J.Turning.middle g.J.Turning.middle_side g.J.Turning.lower (step c.rows.inside.table.shared.table_id.slots i (c.args.stamp + 2) 0 none) c.pass.inside.seat.me 0))
+          (sym (c.index_of-word.ensures ∙ ap (λ (y : ℕ). word_at y Stamp) row))
+          (shrinks c.rows.inside.table.shared.key c.rows.inside.table.shared.table_id.slots c.pass.inside.seat.id c.pass.inside.seat.me g.J.Turning.upper g.J.Turning.upper_side g.J.Turning.middle g.J.Turning.middle_side g.J.Turning.lower c.args.stamp (subst (λ (y : ℕ). y ≤ c.rows.inside.table.shared.key.rows) row low) (search rules) (search rules) c.requires.count.0 (search rules)),
+    )

@@ -1,0 +1,43 @@
+-- What a pass knows of words: those of a row that it holds, and those of a row of its own.
+use Rattle.std.specs.Prelude.{◌==◌, Bool, ℕ, ◌&&◌, cond, List, [], ◌∷◌, ◌≡◌, ◌⊎◌, ◌<◌, ◌%◌}
+use Rattle.snap_stamp.specs.Layout.{place_of}
+use Rattle.snap_stamp.specs.declared.layout.Field.{Field}
+use Rattle.snap_stamp.specs.declared.layout.Field.TheVariants.{Birth, Stamp}
+use Rattle.snap_steps.specs.declared.view.Fact.{Fact}
+use Rattle.snap_steps.specs.Counting.{times, Among}
+use Rattle.snap_steps.specs.Memory.{Row, row, field}
+use Rattle.snap_steps.specs.declared.view.View.{View}
+
+abbrev pub same_field : Field → Field → Bool
+same_field f g = place_of f == place_of g
+
+abbrev pub fact : ℕ → Field → ℕ → Fact
+fact r f n = record { row = r; field = f; word = n }
+
+-- without what was known of this field of this row
+abbrev pub forgotten : List Fact → ℕ → Field → List Fact
+forgotten [] r f = []
+forgotten (x ∷ xs) r f = cond ((x.row == r) && same_field x.field f) (forgotten xs r f) (x ∷ forgotten xs r f)
+
+-- without what was known of this row
+abbrev pub forgotten_row : List Fact → ℕ → List Fact
+forgotten_row [] r = []
+forgotten_row (x ∷ xs) r = cond (x.row == r) (forgotten_row xs r) (x ∷ forgotten_row xs r)
+
+abbrev pub IsKnown : List Fact → ℕ → Field → ℕ → Type 0
+IsKnown [] r f x = ⊥
+IsKnown (y ∷ ys) r f x = ((y.row ≡ r) × (y.field ≡ f) × (y.word ≡ x)) ⊎ IsKnown ys r f x
+
+-- what is known of held rows is so
+abbrev pub AreFacts : List Row → List ℕ → List Fact → Type 0
+AreFacts rows holds [] = Unit {0}
+AreFacts rows holds (x ∷ xs) = (field x.field (row rows x.row) ≡ x.word) × (Among x.row holds) × AreFacts rows holds xs
+
+-- under its lock the row is known to be of this epoch and without the mark of the unlinked
+pub record IsBorn (v : View) (r : ℕ) : Type 0 where
+  pub birth : ℕ
+  pub is_birth : IsKnown v.knows r Birth birth
+  pub now : Among birth v.present
+  pub stamp : ℕ
+  pub is_stamp : IsKnown v.knows r Stamp stamp
+  pub unmarked : stamp % 2 ≡ 0

@@ -1,0 +1,45 @@
+-- What a seat is, and the views that seats begin and end with.
+use Rattle.std.specs.Prelude.{ℕ, List, [], ◌∷◌, false}
+use Rattle.snap_rule.specs.declared.change.Doing.TheVariants.{Nothing}
+use Rattle.snap_rule.specs.declared.reader.Reading.TheVariants.{Resting}
+use Rattle.snap_steps.specs.declared.view.Role.{Role}
+use Rattle.snap_steps.specs.declared.view.Role.TheVariants.{Opening, Passing, Noting, Spent}
+use Rattle.snap_steps.specs.declared.view.View.{View}
+use Rattle.snap_steps.specs.declared.view.Stage.TheVariants.{Idle}
+
+abbrev pub is_live : Role → ℕ
+is_live Opening = 1
+is_live Passing = 1
+is_live Noting = 1
+is_live Spent = 0
+
+abbrev pub is_counted : Role → ℕ
+is_counted Opening = 0
+is_counted Passing = 1
+is_counted Noting = 0
+is_counted Spent = 0
+
+abbrev pub is_opening : Role → ℕ
+is_opening Opening = 1
+is_opening Passing = 0
+is_opening Noting = 0
+is_opening Spent = 0
+
+abbrev pub own_number : Role → ℕ → List ℕ
+own_number Opening who = []
+own_number Passing who = who ∷ []
+own_number Noting who = []
+own_number Spent who = []
+
+abbrev pub blank : ℕ → ℕ → Role → ℕ → View
+blank rows passes role who = record { rows = rows; passes = passes; who = who; role = role; stage = Idle; seen = []; mine = []; notes = []; handed = 0; epochs = 0; worn = false; drawn = []; cuts = []; uses = 0; admitted = []; holds = []; knows = []; reached = []; own = []; wrote = []; reads = Resting; doing = Nothing; present = []; steps = 0; joined = [] }
+
+abbrev pub opener : ℕ → ℕ → ℕ → View
+opener rows passes who = blank rows passes Opening who
+
+abbrev pub newcomer : ℕ → ℕ → ℕ → View
+newcomer rows passes who = blank rows passes Passing who
+
+-- a seat that was joined to another
+abbrev pub gone : View
+gone = blank 0 0 Spent 0

@@ -1,0 +1,37 @@
+-- Entering a write and leaving it, closing the gate, cutting and opening it again.
+use Rattle.std.specs.Prelude.{◌+◌, false, ℕ, [], List, length, ◌∷◌, ◌++◌}
+use Rattle.atomic_table.specs.Table.{Step}
+use Rattle.snap_model.specs.declared.call.Entry.{Entry}
+use Rattle.snap_rule.specs.declared.reader.Reading.TheVariants.{Resting}
+use Rattle.snap_steps.specs.declared.view.View.{View}
+use Rattle.snap_steps.specs.declared.view.Stage.TheVariants.{Writing, Closing, Idle}
+use Rattle.snap_steps.specs.Stages.{after_cut}
+use Rattle.snap_steps.specs.Steps.Header.{noted}
+use Rattle.snap_steps.specs.declared.view.HeaderNote.TheVariants.{Gate}
+use Rattle.snap_steps.specs.Steps.Told.{Sat, Tried, Has}
+use Rattle.snap_steps.specs.Histories.{Extends}
+
+abbrev pub entered : View → View
+entered v = record v { stage = Writing false false; uses = v.uses + 1 }
+
+abbrev pub closed : View → ℕ → View
+closed v gate = record v { stage = Closing gate false false; uses = v.uses + 1 }
+
+abbrev pub idled : View → View
+idled v = record v { stage = Idle; present = [] }
+
+-- the closing pass has cut, and has seen all
+abbrev pub cut_made : View → List Entry → View
+cut_made v seen = record v { seen = seen; reads = Resting; stage = after_cut v.stage; cuts = v.cuts ++ length seen ∷ [] }
+
+abbrev pub entering_tried : Step (Unit {0}) → Sat → ℕ → Sat → Type 0
+entering_tried st m r n = Tried st m r n (entered m.0) (noted m.0 (Gate r))
+
+abbrev pub closing_tried : Step (Unit {0}) → Sat → ℕ → Sat → Type 0
+closing_tried st m r n = Tried st m r n (closed m.0 st.second) (noted m.0 (Gate r))
+
+abbrev pub ended : Step (Unit {0}) → Sat → ℕ → Sat → Type 0
+ended st m r n = Has m n (idled m.0)
+
+abbrev pub cut_told : Step (Unit {0}) → Sat → ℕ → Sat → Type 0
+cut_told st m r n = (seen : List Entry) × Extends m.0 seen × Has m n (cut_made m.0 seen)

@@ -1,0 +1,84 @@
+-- The steps that make the entry of a write, and the step that counts it.
+use Rattle.std.specs.Prelude.{zero, suc, ℕ, Option, true, false, List, [], ◌∷◌, ◌++◌, ◌<◌, ◌≡◌, ◌⊎◌, None}
+use Rattle.atomic_table.specs.Table.{Step}
+use Rattle.snap_model.specs.declared.call.Call.{Call}
+use Rattle.snap_model.specs.declared.call.Call.TheVariants.{Put, Remove}
+use Rattle.snap_model.specs.declared.call.Entry.{Entry}
+use Rattle.snap_rule.specs.Tree.{value_of}
+use Rattle.snap_rule.specs.declared.reader.Point.TheVariants.{Standing, NoLink}
+use Rattle.snap_rule.specs.declared.reader.Reading.TheVariants.{Resting, On}
+use Rattle.snap_stamp.specs.Layout.{word_at}
+use Rattle.snap_stamp.specs.declared.layout.Field.{Field}
+use Rattle.snap_stamp.specs.declared.layout.Field.TheVariants.{Value, Key, Birth, Height, Left, Right, Stamp}
+use Rattle.snap_stamp.specs.declared.side.Side.{Side}
+use Rattle.snap_steps.specs.declared.view.View.{View}
+use Rattle.snap_steps.specs.declared.view.Stage.TheVariants.{Writing}
+use Rattle.snap_steps.specs.Facts.{forgotten, fact, IsKnown, IsBorn, forgotten_row}
+use Rattle.snap_steps.specs.Counting.{times, removed, Among}
+use Rattle.snap_steps.specs.States.{link_field}
+use Rattle.snap_steps.specs.Steps.Told.{Sat, Has}
+use Rattle.snap_steps.specs.Histories.{Enters}
+use Rattle.snap_model.specs.declared.call.Call.TheVariants as calls
+use Rattle.snap_steps.specs.Memory.{field}
+
+-- the word n in a row's value word: a put, or a removal where it is 0
+abbrev pub call_of : ℕ → ℕ → Call
+call_of key zero = Remove key
+call_of key (suc v) = Put key v
+
+abbrev pub entry : ℕ → Call → Option ℕ → Entry
+entry who call reply = record { who = who; call = call; reply = reply }
+
+-- the value word of a held row was written, and the entry of the write made
+abbrev pub stored : View → List Entry → Entry → ℕ → ℕ → View
+stored v log e r n = record v { reads = Resting; seen = log ++ e ∷ []; mine = v.mine ++ e ∷ []; stage = Writing true false; knows = fact r Value n ∷ forgotten v.knows r Value }
+
+-- the entry of the write was made by a step that wrote nothing
+abbrev pub made_entry : View → List Entry → Entry → View
+made_entry v log e = record v { reads = Resting; seen = log ++ e ∷ []; mine = v.mine ++ e ∷ []; stage = Writing true false }
+
+-- what was stored in the row makes it a leaf of this epoch
+pub record IsLeaf (v : View) (r a_key a_value : ℕ) : Type 0 where
+  pub own : Among r v.own
+  pub key : IsKnown v.wrote r Key a_key
+  pub value : IsKnown v.wrote r Value (suc a_value)
+  pub height : IsKnown v.wrote r Height 1
+  pub left : IsKnown v.wrote r Left 0
+  pub right : IsKnown v.wrote r Right 0
+  pub birth : ℕ
+  pub is_birth : IsKnown v.wrote r Birth birth
+  pub now : Among birth v.present
+
+-- the way of the key ends below the held row: its stamp is as the pass found it, and its link is 0
+pub record IsPlace (v : View) (key parent : ℕ) (f : Field) : Type 0 where
+  pub held : Among parent v.holds
+  pub stamp : ℕ
+  pub side : Side
+  pub way : (v.reads ≡ On key (Standing parent stamp side)) ⊎ (v.reads ≡ On key (NoLink parent stamp side))
+  pub by_side : f ≡ link_field side
+  pub still : IsKnown v.knows parent Stamp stamp
+  pub none : IsKnown v.knows parent f 0
+  pub live : (parent ≡ 0) ⊎ IsBorn v parent
+
+-- a row of the pass was linked below a held one, and the entry of the write made
+abbrev pub hung : View → List Entry → Entry → ℕ → Field → ℕ → View
+hung v log e parent f r = record v { reads = Resting; seen = log ++ e ∷ []; mine = v.mine ++ e ∷ []; stage = Writing true false; own = removed r v.own; wrote = forgotten_row v.wrote r; knows = fact parent f r ∷ forgotten v.knows parent f }
+
+abbrev pub counted_one : View → View
+counted_one v = record v { stage = Writing true true }
+
+abbrev pub value_stored : Step (Unit {0}) → Sat → ℕ → Sat → Type 0
+value_stored st m r n = (row : ℕ) → st.word ≡ word_at row Value
+    → (key : ℕ) × ((x : ℕ) → IsKnown m.0.knows row Key x → x ≡ key) × ((x : ℕ) → IsKnown m.0.knows row Value x → r ≡ x)
+    × (log : List Entry) × Enters m.0 log (entry m.0.who (call_of key st.first) (value_of r)) × Has m n (stored m.0 log (entry m.0.who (call_of key st.first) (value_of r)) row st.first)
+
+-- a removal of the key found nothing
+abbrev pub absent_confirmed : ℕ → Step (Unit {0}) → Sat → ℕ → Sat → Type 0
+absent_confirmed key st m r n = (log : List Entry) × Enters m.0 log (entry m.0.who (Remove key) None) × Has m n (made_entry m.0 log (entry m.0.who (Remove key) None))
+
+-- a row with the key and the value was linked below the parent
+abbrev pub leaf_hung : ℕ → ℕ → ℕ → Field → Step (Unit {0}) → Sat → ℕ → Sat → Type 0
+leaf_hung key value parent field st m r n = (log : List Entry) × Enters m.0 log (entry m.0.who (calls.Put key value) None) × Has m n (hung m.0 log (entry m.0.who (calls.Put key value) None) parent field st.first)
+
+abbrev pub done_counted : Step (Unit {0}) → Sat → ℕ → Sat → Type 0
+done_counted st m r n = Has m n (counted_one m.0)

@@ -1,0 +1,62 @@
+//! The removal of a key whose way ends below a row.
+ghost use Rattle.std.specs.Prelude.{◌≡◌, ◌≤◌, false, None};
+ghost use Rattle.snap_model.specs.declared.call.Call.TheVariants.{Remove};
+ghost use Rattle.snap_rule.specs.declared.change.Doing.TheVariants.{Nothing};
+ghost use Rattle.snap_steps.specs.Histories.{Enters};
+ghost use Rattle.snap_steps.specs.Seen.{IsOf, Becomes};
+ghost use Rattle.snap_steps.specs.States.{link_field};
+ghost use Rattle.snap_steps.specs.Steps.Writes.{entry, made_entry, IsPlace, absent_confirmed};
+ghost use Rattle.snap_steps.specs.declared.view.Stage.TheVariants.{Writing};
+
+use crate::fields::index_of;
+use crate::pass::Pass;
+use crate::rows::Rows;
+use crate::view::View;
+use crate::writes::{Saying, link_of};
+use atomic_table::Play;
+use snap_stamp::{Field, Key, RowNo, Side};
+use std::marker::{Brand, PhantomData};
+
+struct ConfirmBelow<J> {
+    marker: PhantomData<J>,
+}
+
+impl<J: Saying> Play<(), View> for ConfirmBelow<J> {
+    ghost then = { absent_confirmed J.key };
+}
+
+fn confirm_below_keyed<J: Saying>(
+    rows: &Rows,
+    pass: &mut Pass,
+    row: RowNo,
+    field: Field,
+    key: Key,
+)
+    requires key { key ≡ J.key }
+    requires table { IsOf pass.old rows.now }
+    requires row { row ≤ rows.now.rows }
+    requires writing { pass.old.view.stage ≡ Writing false false }
+    requires place { IsPlace pass.old.view J.key row field }
+    requires whole { pass.old.view.doing ≡ Nothing }
+    ensures { (log : _) × Enters pass.old.view log (entry pass.old.view.who (Remove J.key) None) × Becomes pass.old pass.new (made_entry pass.old.view log (entry pass.old.view.who (Remove J.key) None)) }
+{
+    let _key = key;
+    let word = index_of(row, field);
+    rows.table
+        .shared
+        .load::<ConfirmBelow<J>>(&mut pass.seat, word);
+}
+
+/// Loads again the link of 0 below the held row at which the way of the key ends. This makes the entry of the
+/// write: a removal that found none.
+pub fn confirm_absent_below(rows: &Rows, pass: &mut Pass, row: RowNo, side: Side, key: Key)
+    requires table { IsOf pass.old rows.now }
+    requires row { row ≤ rows.now.rows }
+    requires writing { pass.old.view.stage ≡ Writing false false }
+    requires place { IsPlace pass.old.view key row (link_field side) }
+    requires whole { pass.old.view.doing ≡ Nothing }
+    ensures { (log : _) × Enters pass.old.view log (entry pass.old.view.who (Remove key) None) × Becomes pass.old pass.new (made_entry pass.old.view log (entry pass.old.view.who (Remove key) None)) }
+{
+    let field = link_of(side);
+    confirm_below_keyed::<Brand>(rows, pass, row, field, key);
+}

@@ -1,0 +1,83 @@
+//! Loads of the header. Each leaves a note of what it found.
+ghost use Rattle.std.specs.Prelude.{◌≡◌, ◌≤◌, length};
+ghost use Rattle.snap_steps.specs.Histories.{Extends};
+ghost use Rattle.snap_steps.specs.Seen.{IsOf, Becomes};
+ghost use Rattle.snap_steps.specs.Steps.Header.{noted, saw, left_seen, epoch_noted, next_loaded, gate_loaded, left_loaded, done_loaded, epoch_loaded};
+ghost use Rattle.snap_steps.specs.declared.view.HeaderNote.TheVariants.{Next, Gate, Done};
+
+use crate::pass::Pass;
+use crate::rows::Rows;
+use crate::view::View;
+use atomic_table::Play;
+
+struct LoadNext;
+
+impl Play<(), View> for LoadNext {
+    ghost then = { next_loaded };
+}
+
+struct LoadGate;
+
+impl Play<(), View> for LoadGate {
+    ghost then = { gate_loaded };
+}
+
+struct LoadLeft;
+
+impl Play<(), View> for LoadLeft {
+    ghost then = { left_loaded };
+}
+
+struct LoadDone;
+
+impl Play<(), View> for LoadDone {
+    ghost then = { done_loaded };
+}
+
+struct LoadEpoch;
+
+impl Play<(), View> for LoadEpoch {
+    ghost then = { epoch_loaded };
+}
+
+/// How many rows were handed out.
+pub fn load_next(rows: &Rows, pass: &mut Pass) -> u32
+    requires { IsOf pass.old rows.now }
+    ensures range { result ≤ rows.now.rows }
+    ensures pass { Becomes pass.old pass.new (noted pass.old.view (Next result)) }
+{
+    let found = rows.table.shared.load::<LoadNext>(&mut pass.seat, 0);
+    found as u32
+}
+
+/// Twice the writes that were entered, plus 1 while the gate is closed.
+pub fn load_gate(rows: &Rows, pass: &mut Pass) -> u64
+    requires { IsOf pass.old rows.now }
+    ensures { Becomes pass.old pass.new (noted pass.old.view (Gate result)) }
+{
+    rows.table.shared.load::<LoadGate>(&mut pass.seat, 1)
+}
+
+/// How many writes have ended. A closing pass that finds half of the gate knows that no write is in progress.
+pub fn load_left(rows: &Rows, pass: &mut Pass) -> u64
+    requires { IsOf pass.old rows.now }
+    ensures { Becomes pass.old pass.new (left_seen pass.old.view result) }
+{
+    rows.table.shared.load::<LoadLeft>(&mut pass.seat, 2)
+}
+
+/// How many entries of the history are counted. The pass has then seen at least as many.
+pub fn load_done(rows: &Rows, pass: &mut Pass) -> u64
+    requires { IsOf pass.old rows.now }
+    ensures { (seen : _) × Extends pass.old.view seen × (result ≤ length seen) × Becomes pass.old pass.new (noted (saw pass.old.view seen) (Done result)) }
+{
+    rows.table.shared.load::<LoadDone>(&mut pass.seat, 3)
+}
+
+/// How many clones were cut. A pass in a write knows from then on that this is the epoch until it leaves.
+pub fn load_epoch(rows: &Rows, pass: &mut Pass) -> u64
+    requires { IsOf pass.old rows.now }
+    ensures { Becomes pass.old pass.new (epoch_noted pass.old.view result) }
+{
+    rows.table.shared.load::<LoadEpoch>(&mut pass.seat, 4)
+}

@@ -1,0 +1,40 @@
+//! One public call for each kind of atomic step on the words of a table, and the rule that every step keeps.
+//!
+//! A table's words lie in one `atomic_table`: a header and rows. Each pass has a seat there, and no other crate
+//! touches a word but by the calls of this one. `specs/Rule.antt` has the rule, `specs/Steps` what each kind of
+//! step asks, tells and makes of what its pass knows.
+#![tactic(auto)]
+
+mod absences;
+mod changes;
+mod draws;
+mod fields;
+mod front;
+mod gate;
+mod header;
+mod locks;
+mod pass;
+mod rows;
+mod rule;
+mod seats;
+mod view;
+mod way;
+mod writes;
+
+pub use absences::confirm_absent_below;
+pub use changes::mark_shrinking;
+pub use draws::{Full, draw, try_draw};
+pub use fields::{load_key, load_word, store_key, store_own};
+pub use front::{Front, close_rows};
+pub use gate::{count_left, cut, open_gate, try_close, try_enter};
+pub use header::{load_done, load_epoch, load_gate, load_left, load_next};
+pub use locks::{free_lock, try_lock};
+pub use pass::{Note, Pass, Receipt};
+pub use rows::Rows;
+pub use seats::{admit, finish, learn, note};
+pub use view::{Admitted, Fact, HeaderNote, Role, Stage, View};
+pub use way::{load_last_word, load_next_word, set_out};
+pub use writes::{confirm_absent, count_done, link_leaf, store_value};
+
+#[cfg(test)]
+mod tests;

@@ -1,0 +1,95 @@
+//! What a seat knows of its table: plain data for clauses and proofs, of which no value is made.
+use snap_model::Entry;
+use snap_rule::{Doing, Reading};
+use snap_stamp::Field;
+use std::collections::LinkedList;
+
+/// A word of the header, as a pass loaded it.
+pub enum HeaderNote {
+    Next(u32),
+    Gate(u64),
+    Left(u64),
+    Done(u64),
+    Epoch(u64),
+}
+
+/// What is kept of a number that was admitted.
+pub struct Admitted {
+    pub who: u32,
+    pub mine: LinkedList<Entry>,
+    pub cuts: LinkedList<u64>,
+    pub uses: u64,
+}
+
+/// What a seat is.
+pub enum Role {
+    /// It hands out the passes, and is none itself. Its `who` is the number of the next one.
+    Opening,
+    /// A pass, or the receipt of one.
+    Passing,
+    /// A note.
+    Noting,
+    /// It was joined to another seat, and is tied to the table no longer.
+    Spent,
+}
+
+/// What a pass is doing at the gate.
+pub enum Stage {
+    Idle,
+    /// Whether the entry of this write is made, and whether it is counted.
+    Writing { made: bool, counted: bool },
+    /// The gate as it was closed, whether no write was in progress since, and whether this closing has cut.
+    Closing { gate: u64, quiet: bool, cut: bool },
+}
+
+/// A word of a row, as the pass last loaded or stored it while the row was its own or held.
+pub struct Fact {
+    pub row: u32,
+    pub field: Field,
+    pub word: u64,
+}
+
+/// What a seat knows.
+pub struct View {
+    /// The size of the table, and how many passes it has.
+    pub rows: u32,
+    pub passes: u32,
+    pub who: u32,
+    pub role: Role,
+    pub stage: Stage,
+    /// What it has seen of the history, and its own entries in it.
+    pub seen: LinkedList<Entry>,
+    pub mine: LinkedList<Entry>,
+    /// The header words that it loaded, in their order.
+    pub notes: LinkedList<HeaderNote>,
+    /// The greatest `Next` and the greatest `Epoch` that it, or a seat that was joined to it, noted.
+    pub handed: u32,
+    pub epochs: u64,
+    /// Whether one of these noted a stamp at its greatest count.
+    pub worn: bool,
+    /// The rows that it drew.
+    pub drawn: LinkedList<u32>,
+    /// The lengths of the history at which it made clones.
+    pub cuts: LinkedList<u64>,
+    /// How many writes it entered and closings it made.
+    pub uses: u64,
+    pub admitted: LinkedList<Admitted>,
+    /// The rows whose locks it holds, and what it knows of their words.
+    pub holds: LinkedList<u32>,
+    pub knows: LinkedList<Fact>,
+    /// Rows that were linked, to which it came.
+    pub reached: LinkedList<u32>,
+    /// Rows that it drew and that aren't linked, and what it stored in them.
+    pub own: LinkedList<u32>,
+    pub wrote: LinkedList<Fact>,
+    /// Where it is on the way to a key.
+    pub reads: Reading,
+    /// The change that it is in.
+    pub doing: Doing,
+    /// What it loaded as the epoch in this write.
+    pub present: LinkedList<u64>,
+    /// How many steps it made that may leave nothing else behind.
+    pub steps: u64,
+    /// The two histories that its last join put together.
+    pub joined: LinkedList<LinkedList<Entry>>,
+}

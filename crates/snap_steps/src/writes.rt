@@ -1,0 +1,222 @@
+//! The steps by which a put or a removal enters the history, and the step that counts its entry.
+ghost use Rattle.std.specs.Prelude.{◌≡◌, ℕ, ◌<◌, ◌≤◌, true, false, None};
+ghost use Rattle.snap_model.specs.declared.call.Call.TheVariants.{Put, Remove};
+ghost use Rattle.snap_rule.specs.Tree.{value_of};
+ghost use Rattle.snap_rule.specs.declared.change.Doing.TheVariants.{Nothing};
+ghost use Rattle.snap_stamp.specs.declared.layout.Field.{Field};
+ghost use Rattle.snap_stamp.specs.declared.layout.Field.TheVariants.{Key, Value};
+ghost use Rattle.snap_steps.specs.Counting.{Among};
+ghost use Rattle.snap_steps.specs.Facts.{IsKnown, IsBorn};
+ghost use Rattle.snap_steps.specs.Histories.{Enters};
+ghost use Rattle.snap_steps.specs.Pairs.{added_by, taken_by};
+ghost use Rattle.snap_steps.specs.Seen.{IsOf, Becomes};
+ghost use Rattle.snap_steps.specs.States.{link_field};
+ghost use Rattle.snap_steps.specs.Steps.Writes.{call_of, entry, stored, made_entry, hung, counted_one, IsLeaf, IsPlace, value_stored, absent_confirmed, leaf_hung, done_counted};
+ghost use Rattle.snap_steps.specs.declared.view.Stage.TheVariants.{Writing};
+
+use crate::fields::index_of;
+use crate::pass::Pass;
+use crate::rows::Rows;
+use crate::view::View;
+use atomic_table::Play;
+use snap_stamp::{Field, Key, RowNo, Side};
+use std::marker::{Brand, PhantomData};
+
+struct StoreValue;
+
+impl Play<(), View> for StoreValue {
+    ghost then = { value_stored };
+}
+
+struct CountDone;
+
+impl Play<(), View> for CountDone {
+    ghost then = { done_counted };
+}
+
+/// The key of the call that a step is to tell of. Each call picks it.
+pub(crate) trait Saying {
+    ghost key: { ℕ };
+}
+
+impl Saying for Brand {
+    ghost key = { 0 };
+}
+
+struct ConfirmAbsent<J> {
+    marker: PhantomData<J>,
+}
+
+impl<J: Saying> Play<(), View> for ConfirmAbsent<J> {
+    ghost then = { absent_confirmed J.key };
+}
+
+/// Where a leaf is to be linked, and what it holds. Each call picks it.
+trait Leaf {
+    ghost key: { ℕ };
+
+    ghost value: { ℕ };
+
+    ghost below: { ℕ };
+
+    ghost by_field: { Field };
+}
+
+impl Leaf for Brand {
+    ghost key = { 0 };
+
+    ghost value = { 0 };
+
+    ghost below = { 0 };
+
+    ghost by_field = { Key };
+}
+
+struct LinkLeaf<J> {
+    marker: PhantomData<J>,
+}
+
+impl<J: Leaf> Play<(), View> for LinkLeaf<J> {
+    ghost then = { leaf_hung J.key J.value J.below J.by_field };
+}
+
+/// Stores the value word of a held row of the tree, and answers the word that was there. This makes the entry of
+/// the write: a put of `new - 1`, or a removal where `new` is 0.
+pub fn store_value(rows: &Rows, pass: &mut Pass, row: RowNo, key: Key, new: u64) -> u64
+    requires table { IsOf pass.old rows.now }
+    requires row { row ≤ rows.now.rows }
+    requires writing { pass.old.view.stage ≡ Writing false false }
+    requires held { Among row pass.old.view.holds }
+    requires reached { Among row pass.old.view.reached }
+    requires key { IsKnown pass.old.view.knows row Key key }
+    requires born { IsBorn pass.old.view row }
+    ensures known { (x : ℕ) → IsKnown pass.old.view.knows row Value x → result ≡ x }
+    ensures entry { (log : _) × Enters pass.old.view log (entry pass.old.view.who (call_of key new) (value_of result)) × Becomes pass.old pass.new (stored pass.old.view log (entry pass.old.view.who (call_of key new) (value_of result)) row new) }
+{
+    let word = index_of(row, Field::Value);
+    let was = rows
+        .table
+        .shared
+        .swap::<StoreValue>(&mut pass.seat, word, new);
+    pass.added = pass.added.wrapping_add(pairs_added(key, was, new));
+    pass.taken = pass.taken.wrapping_add(pairs_taken(key, was, new));
+    was
+}
+
+// How many pairs a value word adds to the map in the place of another.
+fn pairs_added(key: Key, was: u64, new: u64) -> u64
+    ensures { result ≡ added_by (call_of key new) (value_of was) }
+{
+    let _key = key;
+    if was == 0 && new > 0 { 1 } else { 0 }
+}
+
+// How many it takes out.
+fn pairs_taken(key: Key, was: u64, new: u64) -> u64
+    ensures { result ≡ taken_by (call_of key new) (value_of was) }
+{
+    let _key = key;
+    if was > 0 && new == 0 { 1 } else { 0 }
+}
+
+fn confirm_keyed<J: Saying>(rows: &Rows, pass: &mut Pass, row: RowNo, key: Key)
+    requires key { key ≡ J.key }
+    requires table { IsOf pass.old rows.now }
+    requires row { row ≤ rows.now.rows }
+    requires writing { pass.old.view.stage ≡ Writing false false }
+    requires held { Among row pass.old.view.holds }
+    requires reached { Among row pass.old.view.reached }
+    requires known { IsKnown pass.old.view.knows row Key key × IsKnown pass.old.view.knows row Value 0 }
+    requires born { IsBorn pass.old.view row }
+    ensures { (log : _) × Enters pass.old.view log (entry pass.old.view.who (Remove J.key) None) × Becomes pass.old pass.new (made_entry pass.old.view log (entry pass.old.view.who (Remove J.key) None)) }
+{
+    let _key = key;
+    let word = index_of(row, Field::Value);
+    rows.table
+        .shared
+        .load::<ConfirmAbsent<J>>(&mut pass.seat, word);
+}
+
+/// Loads again the word that shows a held row of the tree to have no value. This makes the entry of the write: a
+/// removal of the row's key that found none.
+pub fn confirm_absent(rows: &Rows, pass: &mut Pass, row: RowNo, key: Key)
+    requires table { IsOf pass.old rows.now }
+    requires row { row ≤ rows.now.rows }
+    requires writing { pass.old.view.stage ≡ Writing false false }
+    requires held { Among row pass.old.view.holds }
+    requires reached { Among row pass.old.view.reached }
+    requires known { IsKnown pass.old.view.knows row Key key × IsKnown pass.old.view.knows row Value 0 }
+    requires born { IsBorn pass.old.view row }
+    ensures { (log : _) × Enters pass.old.view log (entry pass.old.view.who (Remove key) None) × Becomes pass.old pass.new (made_entry pass.old.view log (entry pass.old.view.who (Remove key) None)) }
+{
+    confirm_keyed::<Brand>(rows, pass, row, key);
+}
+
+pub(crate) fn link_of(side: Side) -> Field
+    ensures { result ≡ link_field side }
+{
+    match side {
+        Side::Left => Field::Left,
+        Side::Right => Field::Right,
+    }
+}
+
+fn link_placed<J: Leaf>(
+    rows: &Rows,
+    pass: &mut Pass,
+    parent: RowNo,
+    field: Field,
+    row: RowNo,
+    key: Key,
+    value: u64,
+)
+    requires leaf { (key ≡ J.key) × (value ≡ J.value) × (parent ≡ J.below) × (field ≡ J.by_field) }
+    requires table { IsOf pass.old rows.now }
+    requires parent { parent ≤ rows.now.rows }
+    requires writing { pass.old.view.stage ≡ Writing false false }
+    requires made { IsLeaf pass.old.view row key value }
+    requires place { IsPlace pass.old.view key parent field }
+    requires whole { pass.old.view.doing ≡ Nothing }
+    ensures { (log : _) × Enters pass.old.view log (entry pass.old.view.who (Put J.key J.value) None) × Becomes pass.old pass.new (hung pass.old.view log (entry pass.old.view.who (Put J.key J.value) None) J.below J.by_field row) }
+{
+    let _told = (key, value);
+    let word = index_of(parent, field);
+    rows.table
+        .shared
+        .store::<LinkLeaf<J>>(&mut pass.seat, word, row.number() as u64);
+    pass.added = pass.added.wrapping_add(1);
+}
+
+/// Links a row of the pass, which is a leaf with the key and the value, below the held row at which its way ends.
+/// This makes the entry of the write: a put that found none.
+pub fn link_leaf(
+    rows: &Rows,
+    pass: &mut Pass,
+    parent: RowNo,
+    side: Side,
+    row: RowNo,
+    key: Key,
+    value: u64,
+)
+    requires table { IsOf pass.old rows.now }
+    requires parent { parent ≤ rows.now.rows }
+    requires writing { pass.old.view.stage ≡ Writing false false }
+    requires made { IsLeaf pass.old.view row key value }
+    requires place { IsPlace pass.old.view key parent (link_field side) }
+    requires whole { pass.old.view.doing ≡ Nothing }
+    ensures { (log : _) × Enters pass.old.view log (entry pass.old.view.who (Put key value) None) × Becomes pass.old pass.new (hung pass.old.view log (entry pass.old.view.who (Put key value) None) parent (link_field side) row) }
+{
+    let field = link_of(side);
+    link_placed::<Brand>(rows, pass, parent, field, row, key, value);
+}
+
+/// Counts the entry of the write that the pass is in.
+pub fn count_done(rows: &Rows, pass: &mut Pass)
+    requires table { IsOf pass.old rows.now }
+    requires made { pass.old.view.stage ≡ Writing true false }
+    ensures { Becomes pass.old pass.new (counted_one pass.old.view) }
+{
+    rows.table
+        .shared
+        .fetch_add::<CountDone>(&mut pass.seat, 3, 1);
+}
