@@ -85,7 +85,7 @@ module _ {about : About} {words : List ℕ} {views : List View} (k : Kept about 
       (λ ne. not_raising (state_of k.m k.g) u.doing n e r (k.doing j u there) q (λ c. omega (arith, k.held j u there r c, others_apart views id v at k.m.rows r k.locked held j u ne there))))) in
       let x : plain ≡ raising r = sym z ∙ q in cc
 
--- K19
+-- `mark_shrinking`
 pub shrinks : (about : About) (slots id : ℕ) (me : Sat) (parent : ℕ) (p : Side) (r : ℕ) (d : Side) (raised x : ℕ) → r ≤ about.rows → IsTurn me.0 parent p r d raised → IsKnown me.0.knows r Stamp x → x % 4 ≡ 0 → me.0.doing ≡ Nothing
     → Allows (Rule about) slots id me (word_at r Stamp) (λ _. x + 2) (λ _. shrinking_stored parent p r d raised (step slots (word_at r Stamp) (x + 2) 0 maybe.none) me 0)
 shrinks about slots id me parent p r d raised x low turn stamp_known unmarked whole s k wide at small =

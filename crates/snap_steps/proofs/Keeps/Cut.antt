@@ -49,7 +49,7 @@ use Rattle.snap_steps.specs.Rule.Worn.{KnowsWorn}
 use Rattle.snap_steps.proofs.Parts.Worn.{worns_evolve}
 use Rattle.snap_steps.specs.Numbers.{all_cuts}
 
--- K14
+-- `cut`
 pub cuts : (about : About) (slots id : ℕ) (me : Sat) (gate : ℕ) → me.0.role ≡ Passing → me.0.joined ≡ [] → me.0.stage ≡ Closing gate true false → Allows (Rule about) slots id me 4 (λ n. (n + 1) % 2 ^ 64) (cut_told (step slots 4 1 0 maybe.none) me)
 cuts about slots id me gate passing alone closing s k wide at small =
     let v : View = me.0 in let views : List View = s.views in let log : List Entry = k.g.history in let w : View = cut_made v log in

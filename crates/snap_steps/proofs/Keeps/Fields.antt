@@ -48,7 +48,7 @@ use Rattle.snap_steps.specs.Rule.Worn.{KnowsWorn}
 use Rattle.snap_steps.specs.Rule.Names.{ActsAsPass}
 use Rattle.snap_steps.proofs.Parts.Worn.{worns_evolve, or_cases, last_found}
 
--- K4
+-- `load_word`
 pub reads : (about : About) (slots id : ℕ) (me : Sat) (r : ℕ) (f : Field) → r ≤ about.rows → Allows (Rule about) slots id me (word_at r f) (λ n. n) (word_loaded (step slots (word_at r f) 0 0 maybe.none) me)
 reads about slots id me r f low s k wide at small =
     let v : View = me.0 in let found : ℕ = get_or s.words (word_at r f) 0 in let is : found ≡ field f (row k.m.rows r) = cell_is k.memory r f low in
@@ -64,7 +64,7 @@ reads about slots id me r f low s k wide at small =
       λ r' f' same. let t = one_word r r' f f' same in ((λ i. (read v (t.0 i) (t.1 i) found, me.1)), λ x there. is ∙ (λ i. field (t.1 i) (row k.m.rows (t.0 i))) ∙ known_is k.m.rows v.holds v.knows r' f' x known there),
     )
 
--- K3
+-- `store_own`
 pub stores_own : (about : About) (slots id : ℕ) (me : Sat) (r new : ℕ) (f : Field) → r ≤ about.rows → f ≢ Lock → f ≢ Stamp → 0 < times r me.0.own → Allows (Rule about) slots id me (word_at r f) (λ _. new) (λ _. stored_own r f (step slots (word_at r f) new 0 maybe.none) me new)
 stores_own about slots id me r new f low no_lock no_stamp mine s k wide at small =
     let v : View = me.0 in let w : View = own_stored v r f new in let rows_wide = k.memory.wide in let x : Row = with_field f new (row k.m.rows r) in let near : r < length k.m.rows = omega arith in

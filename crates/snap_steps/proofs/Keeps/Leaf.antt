@@ -92,7 +92,7 @@ pub standing_at : (s : Table) (seen : List Entry) (key n v : ℕ) (d : Side) (r 
 standing_at s seen key n v d r h (inl e) = subst (ReadingOk s seen) e h
 standing_at s seen key n v d r h (inr e) = let t : PointOk s seen key (NoLink n v d) = subst (ReadingOk s seen) e h in t.0
 
--- K7
+-- `link_leaf`
 pub links_leaf : (about : About) (slots id : ℕ) (me : Sat) (r key value parent : ℕ) (f : Field) → parent ≤ about.rows → key < 2 ^ 64 → me.0.role ≡ Passing → me.0.stage ≡ Writing false false → IsLeaf me.0 r key value → IsPlace me.0 key parent f → me.0.doing ≡ Nothing
     → Allows (Rule about) slots id me (word_at parent f) (λ _. r) (λ _. leaf_hung key value parent f (step slots (word_at parent f) r 0 maybe.none) me r)
 links_leaf about slots id me r key value parent f low small_key passing writing leaf place whole s k wide at small =

@@ -36,7 +36,7 @@ use Rattle.snap_steps.proofs.Parts.Counts.{in_write_le}
 use mathlib.Core.Option as maybe
 use Rattle.snap_steps.specs.Rule.History.{whole}
 
--- K5
+-- `try_lock`
 pub locks : (about : About) (slots id : ℕ) (me : Sat) (r new : ℕ) (said : maybe.Option (Unit {0})) (made counted : Bool) → r ≤ about.rows → new ≡ me.0.who + 1 → me.0.stage ≡ Writing made counted → times r me.0.holds ≡ 0 → (r ≡ 0) ⊎ (0 < times r me.0.reached)
     → Allows (Rule about) slots id me (word_at r Lock) (λ n. either (eqb n 0) new n) (locking_tried (step slots (word_at r Lock) 0 new said) me)
 locks about slots id me r new said made counted low up writing free comes s k wide at small =
@@ -78,7 +78,7 @@ locks about slots id me r new said made counted low up writing free comes s k wi
       λ r' same. ((λ hit. absurd (miss hit)), λ _. refl),
     ))
 
--- K6
+-- `free_lock`
 pub frees : (about : About) (slots id : ℕ) (me : Sat) (r : ℕ) → r ≤ about.rows → 0 < times r me.0.holds → me.0.doing ≡ Nothing → Allows (Rule about) slots id me (word_at r Lock) (λ _. 0) (λ _. lock_freed (step slots (word_at r Lock) 0 0 maybe.none) me 0)
 frees about slots id me r low held whole s k wide at small =
     let v : View = me.0 in let w : View = unlocked v r in let rows_wide = k.memory.wide in

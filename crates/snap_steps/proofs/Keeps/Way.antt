@@ -47,7 +47,7 @@ use Rattle.snap_steps.proofs.Histories.{legal_begin, of_between}
 use mathlib.Core.Option as maybe
 use Rattle.snap_stamp.specs.declared.side.Side.TheVariants as sides
 
--- K1 on `done`, by which a way begins
+-- `set_out`: a load of `done`, by which a way begins
 pub sets_out : (about : About) (slots id : ℕ) (me : Sat) (key : ℕ) → me.0.role ≡ Passing → me.0.joined ≡ [] → Allows (Rule about) slots id me 3 (λ n. n) (way_begun key (step slots 3 0 0 maybe.none) me)
 sets_out about slots id me key passing alone s k wide at small =
     let v : View = me.0 in let r : ℕ = get_or s.words 3 0 in let is : r ≡ k.m.done = done_is k.memory in let w : View = set_out_for (noted v (Done r)) k.g.history key in
@@ -155,7 +155,7 @@ lasts s h k b (Confirmed c w) x = tt
 lasts s h k b ConfirmedNone x = tt
 lasts s h k b (Matched c) x = tt
 
--- K4 on the reader's next word
+-- `load_next_word`
 pub reads_on : (about : About) (slots id : ℕ) (me : Sat) (r : ℕ) (f : Field) (key : ℕ) (point : Point) → r ≤ about.rows → me.0.role ≡ Passing → me.0.reads ≡ On key point → IsNext point r f → Allows (Rule about) slots id me (word_at r f) (λ n. n) (next_read (step slots (word_at r f) 0 0 maybe.none) me)
 reads_on about slots id me r f key point low passing stands next s k wide at small =
     let v : View = me.0 in let found : ℕ = get_or s.words (word_at r f) 0 in let is : found ≡ field f (row k.m.rows r) = cell_is k.memory r f low in let w : View = read_on v found in
@@ -187,7 +187,7 @@ answers m g seen k (Matched c) r f x b h at is =
     let a = value_loaded (state_of m g) seen k c (record { begins = b; at_point = h }) in
     record { moment = a.moment; from = a.later; to = a.made; tells = ap value_of (sym is ∙ (λ i. word_of m (at.0 i) (at.1 i))) ∙ a.holds }
 
--- K4 on the reader's last word
+-- `load_last_word`
 pub reads_last : (about : About) (slots id : ℕ) (me : Sat) (r : ℕ) (f : Field) (key : ℕ) (point : Point) → r ≤ about.rows → me.0.role ≡ Passing → me.0.joined ≡ [] → me.0.reads ≡ On key point → IsLast point r f → Allows (Rule about) slots id me (word_at r f) (λ n. n) (answer_read (step slots (word_at r f) 0 0 maybe.none) me)
 reads_last about slots id me r f key point low passing alone stands last s k wide at small =
     let v : View = me.0 in let found : ℕ = get_or s.words (word_at r f) 0 in let is : found ≡ field f (row k.m.rows r) = cell_is k.memory r f low in

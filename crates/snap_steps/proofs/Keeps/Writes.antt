@@ -48,7 +48,7 @@ use mathlib.Core.Option as maybe
 use Rattle.snap_rule.specs.Kinds.Entries as entry_kinds
 use Rattle.snap_rule.specs.TreeChanges as tree_changes
 
--- K8
+-- `store_value`
 pub stores : (about : About) (slots id : ℕ) (me : Sat) (r key new : ℕ) → r ≤ about.rows → me.0.role ≡ Passing → me.0.stage ≡ Writing false false → 0 < times r me.0.holds → 0 < times r me.0.reached → IsKnown me.0.knows r Key key → IsBorn me.0 r
     → Allows (Rule about) slots id me (word_at r Value) (λ _. new) (value_stored (step slots (word_at r Value) new 0 maybe.none) me)
 stores about slots id me r key new low passing writing held reached key_known born s k wide at small =
@@ -86,7 +86,7 @@ stores about slots id me r key new low passing writing held reached key_known bo
       ),
     )
 
--- K9
+-- `confirm_absent`
 pub confirms : (about : About) (slots id : ℕ) (me : Sat) (r key : ℕ) → r ≤ about.rows → me.0.role ≡ Passing → me.0.stage ≡ Writing false false → 0 < times r me.0.reached → IsKnown me.0.knows r Key key → IsKnown me.0.knows r Value 0 → IsBorn me.0 r
     → Allows (Rule about) slots id me (word_at r Value) (λ n. n) (absent_confirmed key (step slots (word_at r Value) 0 0 maybe.none) me)
 confirms about slots id me r key low passing writing reached key_known value_known born s k wide at small =
@@ -110,7 +110,7 @@ confirms about slots id me r key low passing writing reached key_known value_kno
       (k.g.history, record { goes_on = seen.0; legal = legal_more k.g.history e k.history.legal (sym none_there); own = sym own.0 }, refl),
     )
 
--- K10
+-- `count_done`
 pub counts_done : (about : About) (slots id : ℕ) (me : Sat) → me.0.stage ≡ Writing true false → Allows (Rule about) slots id me 3 (λ n. (n + 1) % 2 ^ 64) (done_counted (step slots 3 1 0 maybe.none) me)
 counts_done about slots id me writing s k wide at small =
     let v : View = me.0 in let w : View = counted_one v in let r : ℕ = get_or s.words 3 0 in let is : r ≡ k.m.done = done_is k.memory in let g = k.gated in let half = g.half in
