@@ -5,9 +5,7 @@
 mod down;
 mod reading;
 
-
 pub use reading::get;
-
 
 #[cfg(test)]
 mod tests;

@@ -25,13 +25,7 @@ impl<J: Saying> Play<(), View> for ConfirmBelow<J> {
     ghost then = { absent_confirmed J.key };
 }
 
-fn confirm_below_keyed<J: Saying>(
-    rows: &Rows,
-    pass: &mut Pass,
-    row: RowNo,
-    field: Field,
-    key: Key,
-)
+fn confirm_below_keyed<J: Saying>(rows: &Rows, pass: &mut Pass, row: RowNo, field: Field, key: Key)
     requires key { key ≡ J.key }
     requires table { IsOf pass.old rows.now }
     requires row { row ≤ rows.now.rows }
