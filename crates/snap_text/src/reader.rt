@@ -1,8 +1,11 @@
-ghost use Rattle.std.specs.Prelude.{◌≡◌, ◌⊎◌, Ok, Err, IfOk, IfErr, length, nat_lt};
+ghost use Rattle.std.specs.Prelude.{◌≡◌, ◌⊎◌, Ok, Err, All, IfOk, IfErr, length, nat_lt};
+ghost use Rattle.snap_text.specs.Grammar.{HasValueInRange};
 ghost use Rattle.snap_text.specs.Lines.{lines};
 ghost use Rattle.snap_text.specs.Scripts.{is_too_long, most_lines, script_of};
 
+use crate::clones::Clones;
 use crate::grammar::read_line;
+use crate::refusal::Refusal;
 use crate::split::Lines;
 use crate::{Line, Script, ScriptFault};
 use std::alloc::Global;
@@ -15,16 +18,18 @@ const MOST_LINES: usize = 100_000;
 /// line that is no command.
 pub fn read_script(alloc: Global, bytes: &[u8]) -> Result<Script, ScriptFault>
     ensures ok { IfOk result (λ script. script_of bytes.now ≡ Ok script) }
+    ensures in_range { IfOk result (All (λ line. HasValueInRange line.command)) }
     ensures refused { IfErr result (λ fault. (fault ≡ ScriptFault.Memory) ⊎ (script_of bytes.now ≡ Err fault)) }
 {
     if is_too_long(bytes) {
         return Err(ScriptFault::TooLong);
     }
     let mut script = Script::new(alloc);
+    let mut clones = Clones::none();
     let mut number: u32 = 0;
     for text in Lines::of(bytes) {
         number += 1;
-        match read_line(text) {
+        match read_line(alloc, &mut clones, text) {
             Ok(None) => {}
             Ok(Some(command)) => {
                 if script
@@ -37,7 +42,8 @@ pub fn read_script(alloc: Global, bytes: &[u8]) -> Result<Script, ScriptFault>
                     return Err(ScriptFault::Memory);
                 }
             }
-            Err(kind) => return Err(ScriptFault::Line { line: number, kind }),
+            Err(Refusal::Line(kind)) => return Err(ScriptFault::Line { line: number, kind }),
+            Err(Refusal::Memory) => return Err(ScriptFault::Memory),
         }
     }
     Ok(script)

@@ -1,12 +1,12 @@
--- Commands one by one: what one more adds to the replies and to the table.
-use Rattle.std.proofs.Common.{◌≡◌, ◌<◌, ◌+◌, ℕ, length, get_or, take, List, [], ◌∷◌, ◌++◌, Option, Some, None, refl, sym, ◌∙◌, ap, append_assoc, append-nil}
+-- Commands one by one: what one more adds to the replies and to the state.
+use Rattle.std.proofs.Common.{◌≡◌, ◌<◌, ◌+◌, ℕ, zero, suc, length, get_or, take, List, [], ◌∷◌, ◌++◌, Option, Some, None, refl, sym, ◌∙◌, ap, append_assoc, append-nil, arith}
 use Rattle.std.proofs.lemmas.List.{take_more, map-append}
-use Rattle.snap_model.specs.SortedMap.{Pairs, at}
 use Rattle.snap_model.specs.declared.command.Command.{Command}
-use Rattle.snap_model.specs.declared.command.Command.TheVariants.{Put, Remove, Get}
-use Rattle.snap_text.specs.Replies.{IsReplyOf, reply_text}
-use Rattle.snap_service.specs.Tables.{IsTableCommand, Table, reply_to, put_reply, remove_reply, get_reply, table_after, table_after_all}
+use Rattle.snap_text.specs.Replies.{reply_text}
 use Rattle.snap_text.specs.declared.script.Line.{Line}
+use Rattle.snap_service.specs.States.{State}
+use Rattle.snap_service.specs.Replies.{reply_to}
+use Rattle.snap_service.specs.Commands.{CanRun, CanRunAll, state_after, state_after_all}
 use Rattle.snaptable.specs.Replies.{commands_of, reply_lines}
 
 -- one line more is one command more
@@ -14,29 +14,16 @@ pub commands_of-take : (lines : List Line) (i : ℕ) (line : Line) → i < lengt
 commands_of-take lines i line within is =
     ap commands_of (take_more lines i line within) ∙ map-append (λ (l : Line). l.command) (take i lines) _ ∙ ap (λ (l : Line). commands_of (take i lines) ++ l.command ∷ []) (sym is)
 
--- the reply of a command is one of its replies
-pub is_reply : (m : Pairs) (c : Command) → IsTableCommand c → IsReplyOf c (reply_to m c)
-is_reply m (Put key value) is = of_put (at m key)
-  where
-    of_put : (was : Option ℕ) → IsReplyOf (Put key value) (put_reply was)
-    of_put None = tt
-    of_put (Some old) = tt
-is_reply m (Remove key) is = of_remove (at m key)
-  where
-    of_remove : (was : Option ℕ) → IsReplyOf (Remove key) (remove_reply was)
-    of_remove None = tt
-    of_remove (Some old) = tt
-is_reply m (Get key) is = of_get (at m key)
-  where
-    of_get : (found : Option ℕ) → IsReplyOf (Get key) (get_reply found)
-    of_get None = tt
-    of_get (Some value) = tt
-is_reply m _ is = absurd is
+pub state_after_all-push : (s : State) (cs : List Command) (c : Command) → state_after_all s [] (cs ++ c ∷ []) ≡ state_after (state_after_all s [] cs) [] c
+state_after_all-push s [] c = refl
+state_after_all-push s (first ∷ cs) c = state_after_all-push (state_after s [] first) cs c
 
-pub table_after_all-push : (t : Table) (cs : List Command) (c : Command) → table_after_all t (cs ++ c ∷ []) ≡ table_after (table_after_all t cs) c
-table_after_all-push t [] c = refl
-table_after_all-push t (first ∷ cs) c = table_after_all-push (table_after t first) cs c
+pub reply_lines-push : (s : State) (cs : List Command) (c : Command) → reply_lines s (cs ++ c ∷ []) ≡ reply_lines s cs ++ reply_text c (reply_to (state_after_all s [] cs) [] c)
+reply_lines-push s [] c = append-nil (reply_text c (reply_to s [] c))
+reply_lines-push s (first ∷ cs) c = ap (λ (l : List ℕ). reply_text first (reply_to s [] first) ++ l) (reply_lines-push (state_after s [] first) cs c) ∙ sym (append_assoc (reply_text first (reply_to s [] first)) _ _)
 
-pub reply_lines-push : (t : Table) (cs : List Command) (c : Command) → reply_lines t.map (cs ++ c ∷ []) ≡ reply_lines t.map cs ++ reply_text c (reply_to (table_after_all t cs).map c)
-reply_lines-push t [] c = append-nil (reply_text c (reply_to t.map c))
-reply_lines-push t (first ∷ cs) c = ap (λ (l : List ℕ). reply_text first (reply_to t.map first) ++ l) (reply_lines-push (table_after t first) cs c) ∙ sym (append_assoc (reply_text first (reply_to t.map first)) _ _)
+-- where all commands can be run, the next one can be after those before it
+pub can_run_next : (s : State) (lines : List Line) (i : ℕ) (line : Line) → CanRunAll s [] (commands_of lines) → i < length lines → line ≡ get_or lines i line → CanRun (state_after_all s [] (commands_of (take i lines))) [] line.command
+can_run_next s [] i line can within is = absurd (omega arith)
+can_run_next s (first ∷ lines) zero line can within is = rw is can.0
+can_run_next s (first ∷ lines) (suc i) line can within is = can_run_next (state_after s [] first.command) lines i line can.1 (omega arith) is

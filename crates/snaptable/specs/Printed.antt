@@ -1,8 +1,10 @@
 -- What the program prints.
 use Rattle.std.specs.Prelude.{ℕ, List, ◌++◌, codes, decimal, length}
 use Rattle.snap_text.specs.declared.script.Line.{Line}
-use Rattle.snap_service.specs.Tables.{Table, empty_table, table_after_all}
-use Rattle.snaptable.specs.Replies.{commands_of}
+use Rattle.snap_service.specs.Tables.{Table}
+use Rattle.snap_service.specs.States.{table_in_use}
+use Rattle.snap_service.specs.Commands.{state_after_all}
+use Rattle.snaptable.specs.Replies.{commands_of, first_state}
 
 -- the summary of one script with so many commands on one table
 abbrev pub summary_of : ℕ → ℕ → ℕ → List ℕ
@@ -12,7 +14,7 @@ summary_of commands writes pairs =
 
 -- the table after a script
 abbrev pub table_of : List Line → Table
-table_of lines = table_after_all empty_table (commands_of lines)
+table_of lines = table_in_use (state_after_all first_state [] (commands_of lines))
 
 -- the summary of a script
 abbrev pub summary : List Line → List ℕ

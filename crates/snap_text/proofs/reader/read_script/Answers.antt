@@ -8,10 +8,10 @@ returns-then-is_too_long-clause-refused c = inr (too_long c.args.bytes.now (sym 
 pub returns-in-Err-clause-refused : goal.returns-in-Err-clause-refused
 returns-in-Err-clause-refused c = inr (
     not_too_long c.args.bytes.now (sym c.is_too_long.ensures ∙ c.if-is_too_long.false)
-    ∙ refused c.args.bytes.now c.loop-text.script c.loop-text.number c.loop-text.text-iterator c.in-Some.text.now c.next.new.self c.in-Err.kind c.loop-text.invariant c.in-Some.ensures.steps c.in-Err.ensures
+    ∙ refused c.args.bytes.now c.loop-text.script c.loop-text.number c.loop-text.text-iterator c.in-Some.text.now c.next.new.self c.in-Err.kind c.loop-text.invariant.script c.in-Some.ensures.steps c.in-Err.ensures.command
     )
 
 pub returns-clause-ok : goal.returns-clause-ok
 returns-clause-ok c =
     not_too_long c.args.bytes.now (sym c.is_too_long.ensures ∙ c.if-is_too_long.false)
-    ∙ all_read c.args.bytes.now c.loop-text.script c.loop-text.number c.loop-text.text-iterator c.loop-text.invariant c.in-None.ensures.steps.0
+    ∙ all_read c.args.bytes.now c.loop-text.script c.loop-text.number c.loop-text.text-iterator c.loop-text.invariant.script c.in-None.ensures.steps.0
