@@ -1,13 +1,11 @@
 -- Which commands may be run in a state, and the state after them.
-use Rattle.std.specs.Prelude.{◌≡◌, ◌<◌, ℕ, List, [], ◌∷◌, None, Some, length, take}
+use Rattle.std.specs.Prelude.{◌≡◌, ◌<◌, ℕ, None, Some, length, take}
 use Rattle.snap_model.specs.SortedMap.{Pairs, at}
 use Rattle.snap_model.specs.declared.command.Command.{Command}
 use Rattle.snap_model.specs.declared.command.Command.TheVariants as command
-use Rattle.snap_model.specs.declared.command.Reply.{Reply}
 use Rattle.snap_service.specs.Tables.{table_after_put, table_after_remove, table_after_puts}
 use Rattle.snap_service.specs.LoadFiles.{Loads, HasFile, pairs_of}
 use Rattle.snap_service.specs.States.{State, HasTable, IsFree, IsTaken, map_in_use, table_in_use, with_slot, with_table, with_use}
-use Rattle.snap_service.specs.Replies.{reply_to, text_of}
 
 -- a clone needs a free slot, whatever asks a clone needs a taken one, and a named table or file has to be there
 abbrev pub CanRun : State → Loads → Command → Type 0
@@ -56,17 +54,3 @@ abbrev pub StopsIn : State → Loads → Command → State → Type 0
 StopsIn s loads (command.Load file) now =
     (made : ℕ) × (made < length (pairs_of loads file)) × (now ≡ state_after_puts s (take made (pairs_of loads file)))
 StopsIn s loads _ now = now ≡ s
-
--- each command can be run in the state that those before it leave
-abbrev pub CanRunAll : State → Loads → List Command → Type 0
-CanRunAll s loads [] = Unit {0}
-CanRunAll s loads (c ∷ cs) = CanRun s loads c × CanRunAll (state_after s loads c) loads cs
-
--- the replies of commands in their order, what they export, and the state after them
-abbrev pub replies_from : State → Loads → List Command → List Reply
-replies_from s loads [] = []
-replies_from s loads (c ∷ cs) = reply_to s loads c ∷ replies_from (state_after s loads c) loads cs
-
-abbrev pub state_after_all : State → Loads → List Command → State
-state_after_all s loads [] = s
-state_after_all s loads (c ∷ cs) = state_after_all (state_after s loads c) loads cs

@@ -1,5 +1,5 @@
 -- What a session knows: the tables, the one in use, and the clones in their slots.
-use Rattle.std.specs.Prelude.{◌≡◌, ◌<◌, ℕ, List, [], length, Option, None, Some, position, bytes_eq, replicate, slice_index_or, slice_set, unwrap_or, IsSome, IsNone}
+use Rattle.std.specs.Prelude.{◌≡◌, ◌<◌, ℕ, List, [], length, Option, None, position, bytes_eq, replicate, slice_index_or, slice_set, unwrap_or, IsSome, IsNone}
 use Rattle.snap_model.specs.SortedMap.{Pairs}
 use Rattle.snap_service.specs.Tables.{Table, empty_table}
 

@@ -8,11 +8,12 @@
 
 mod loads;
 mod receipt;
+mod replies;
 mod service;
 mod session;
 mod table;
 
-pub use loads::{Loads, MOST_PAIRS};
+pub use loads::Loads;
 pub use receipt::KitReceipt;
 pub use service::{Kit, MOST_ROWS, MOST_TABLES, Service};
 pub use session::{SLOTS, Session};

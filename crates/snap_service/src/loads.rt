@@ -1,14 +1,12 @@
-ghost use Rattle.std.specs.Prelude.{◌≡◌, ◌≤◌, ◌++◌, [], ◌∷◌, length, OnOk, OnErr};
+ghost use Rattle.std.specs.Prelude.{◌≡◌, ◌≤◌, ◌++◌, [], ◌∷◌, ◌↔◌, IsTrue, length, OnOk, OnErr};
 ghost use Rattle.std.specs.Option.{option_copied};
+ghost use Rattle.snap_text.specs.Loads.{most_pairs};
 ghost use Rattle.snap_service.specs.LoadFiles.{HasFile, file_of, pairs_of};
 
 use snap_model::{Key, Name, OutOfMemory};
 use snap_text::Pairs;
 use std::alloc::Global;
 use std::marker::Model;
-
-/// The most pairs of a load file.
-pub const MOST_PAIRS: usize = 4_194_304;
 
 /// The load files that commands may name. Contracts see a list: each file's name, with its pairs in their order.
 #[derive(Debug, Drop)]
@@ -39,7 +37,7 @@ impl Loads {
     /// Adds a file at the end. A refusal changes nothing, and drops the arguments.
     pub fn add(&mut self, name: Name, pairs: Pairs) -> Result<(), OutOfMemory>
         requires new_name { ¬ HasFile self.old name }
-        requires few { length pairs ≤ MOST_PAIRS }
+        requires few { length pairs ≤ most_pairs }
         ensures ok { OnOk result (self.new ≡ self.old ++ (name, pairs) ∷ []) }
         ensures err { OnErr result (self.new ≡ self.old) }
     {
@@ -56,6 +54,13 @@ impl Loads {
             unreachable!()
         };
         file.1.list()
+    }
+
+    /// Whether a file of this name is there.
+    pub fn has(&self, name: &Name) -> bool
+        ensures { IsTrue result ↔ HasFile self.now name.now }
+    {
+        self.file(name).is_some()
     }
 
     fn file(&self, name: &Name) -> Option<&(Name, Pairs)>

@@ -7,7 +7,9 @@ ghost use Rattle.snap_service.specs.LoadFiles.{HasFile, pairs_of};
 ghost use Rattle.snap_service.specs.States.{HasTable, IsFree, IsTaken, State, clone_of, free_slots, map_in_use, opened, table_in_use, with_slot, with_table, with_use};
 ghost use Rattle.snap_service.specs.Replies.{put_reply, remove_reply, reply_to, text_of, value_reply, pair_reply};
 ghost use Rattle.snap_service.specs.Commands.{CanRun, StopsIn, MayWantMemory, state_after, state_after_puts};
+ghost use Rattle.snap_service.specs.Runs.{CanRunAll, StopsAmong, replies_from, state_after_all, texts_from};
 
+use crate::replies::{pair_reply, put_reply, remove_reply, value_reply};
 use crate::table::Table;
 use crate::{Kit, KitReceipt, Loads, Service};
 use snap_model::{Command, Key, Name, OutOfMemory, PlainMap, Reply};
@@ -116,9 +118,35 @@ impl<'t> Session<'t> {
         }
     }
 
+    /// Runs commands one after another, and answers their replies in the same order.
+    ///
+    /// Want of memory ends this at some command; those before it were run.
+    pub fn run_all<R: Wait>(
+        &mut self,
+        rt: &R,
+        alloc: Global,
+        commands: &[Command],
+        loads: &Loads,
+        out: &mut Vec<u8>,
+    ) -> Result<Vec<Reply>, OutOfMemory>
+        requires { CanRunAll self.old loads.now commands.now }
+        ensures replies { IfOk result (λ replies. replies.items ≡ replies_from self.old loads.now commands.now) }
+        ensures state { OnOk result (self.new ≡ state_after_all self.old loads.now commands.now) }
+        ensures exported { OnOk result (out.new.items ≡ out.old.items ++ texts_from self.old loads.now commands.now) }
+        ensures stopped { OnErr result (StopsAmong self.old loads.now commands.now self.new out.old.items out.new.items) }
+    {
+        let mut replies = Vec::new(alloc);
+        for command in commands {
+            let reply = self.run(rt, alloc, command, loads, out)?;
+            replies.push(reply)?;
+        }
+        Ok(replies)
+    }
+
     /// Ends the session, and gives up its clones.
     pub fn finish(self) -> KitReceipt
-        ensures { result ≡ counts_of self.entry.tables }
+        ensures counts { result ≡ counts_of self.entry.tables }
+        ensures each_table { length result ≡ length self.entry.names }
     {
         KitReceipt {
             tables: self.tables,
@@ -145,7 +173,7 @@ impl<'t> Session<'t> {
     {
         let table = &mut self.tables[self.in_use];
         let was = table.put(key, value)?;
-        Ok(was.map_or(Reply::New, |value| Reply::Old { value }))
+        Ok(put_reply(was))
     }
 
     fn remove(&mut self, key: Key) -> Reply
@@ -153,8 +181,7 @@ impl<'t> Session<'t> {
         ensures state { self.new ≡ with_table self.old (table_after_remove (table_in_use self.old) key) }
     {
         let table = &mut self.tables[self.in_use];
-        let was = table.remove(key);
-        was.map_or(Reply::Absent, |value| Reply::Old { value })
+        remove_reply(table.remove(key))
     }
 
     fn get(&self, key: Key) -> Reply
@@ -248,14 +275,5 @@ fn free_slots(alloc: Global) -> Result<Vec<Option<PlainMap>>, OutOfMemory>
     Ok(slots)
 }
 
-fn value_reply(found: Option<u64>) -> Reply
-    ensures { result ≡ value_reply found }
-{
-    found.map_or(Reply::Absent, |value| Reply::Value { value })
-}
-
-fn pair_reply(found: Option<(Key, u64)>) -> Reply
-    ensures { result ≡ pair_reply found }
-{
-    found.map_or(Reply::Absent, |(key, value)| Reply::Pair { key, value })
-}
+#[cfg(test)]
+mod tests;

@@ -1,3 +1,4 @@
+mod Ascii
 mod Costs
 mod Digits
 mod Fields
@@ -5,4 +6,6 @@ mod Loading
 mod Reading
 mod Records
 mod Rows
+mod Slots
+mod Sound
 mod Splits

@@ -1,17 +1,15 @@
 -- How a load file is read, record by record.
-use Rattle.std.proofs.Common.{◌≡◌, ◌≢◌, ◌≤◌, ◌<◌, ◌+◌, ◌*◌, ◌++◌, ◌∙◌, ◌&&◌, ℕ, suc, List, [], ◌∷◌, Bool, true, false, Option, Some, None, Result, Ok, Err, length, map, sym, ap, refl, inl, inr, cond, append_assoc, arith, rules, nat_lt}
+use Rattle.std.proofs.Common.{◌≡◌, ◌≤◌, ◌<◌, ◌+◌, ◌*◌, ◌++◌, ◌∙◌, ◌&&◌, ℕ, List, [], ◌∷◌, Bool, true, false, Option, Some, None, Ok, Err, length, map, sym, ap, refl, inl, inr, cond, append_assoc, arith}
 use Rattle.std.specs.Prelude.{bytes_eq, codes}
 use Rattle.std.proofs.lemmas.Bool.{false≢true, le-ltb, lt-ltb}
-use Rattle.std.proofs.lemmas.List.{append-nil, length-map}
 use Rattle.std.proofs.lemmas.Slice.Eq.{bytes_eq-Decides}
-use Rattle.csv.specs.Reading.{Reached, default_config, is_bom, records, strip_bom}
+use Rattle.csv.specs.Reading.{Reached, default_config, is_bom, strip_bom}
 use Rattle.csv.specs.declared.parser.State.{State}
 use Rattle.csv.specs.declared.parser.State.TheVariants as st
-use Rattle.snap_text.specs.declared.fault.PairsFault.{PairsFault}
 use Rattle.snap_text.specs.declared.fault.PairsFault.TheVariants as fault
-use Rattle.snap_text.specs.Loads.{Fields, both, is_header, load_of, most_load_bytes, most_pairs, pair_of, pairs_from, records_of, under_header, with_pair}
-use Rattle.snap_text.specs.Numbers.{greatest_key, greatest_value, number_of}
-use Rattle.snap_text.proofs.Costs.{ArePaid, Begin, all_pay, size, sizes, sizes-push}
+use Rattle.snap_text.specs.Loads.{Fields, both, is_header, load_of, most_load_bytes, most_pairs, pair_of, pairs_from, records_of, under_header}
+use Rattle.snap_text.specs.Numbers.{greatest_key, number_of}
+use Rattle.snap_text.proofs.Costs.{Begin, all_pay, size, sizes}
 
 -- these records are the header and these pairs
 pub record AreHeaderAndPairs (rows : List Fields) (pairs : List (ℕ × ℕ)) : Type 0 where

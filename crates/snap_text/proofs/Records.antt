@@ -1,9 +1,7 @@
 -- What one step of a reader does.
-use Rattle.std.proofs.Common.{◌≡◌, ◌<◌, ◌++◌, ◌∙◌, ℕ, List, [], ◌∷◌, true, false, Option, Some, None, Result, Ok, Err, sym, refl, inl, true≢false}
+use Rattle.std.proofs.Common.{◌≡◌, ◌<◌, ◌++◌, ◌∙◌, ℕ, List, [], ◌∷◌, true, false, Option, Some, sym, inl, true≢false}
 use Rattle.std.specs.Borrow.{Bor}
-use Rattle.csv.specs.Reading.{ExplainsRead, FlexibleStep, ReadRecord, RowStep, default_config, is_flexible, owned_rows_left, owned_rows_reader, records}
-use Rattle.csv.specs.Records.{Row, fields_of}
-use Rattle.csv.specs.declared.error.Error.{Error}
+use Rattle.csv.specs.Reading.{ExplainsRead, ReadRecord, default_config, is_flexible, owned_rows_left, owned_rows_reader, records}
 use Rattle.csv.specs.declared.error.ErrorKind.{ErrorKind}
 use Rattle.csv.specs.declared.error.ErrorKind.TheVariants as kind
 use Rattle.csv.specs.declared.iter.ByteRecordsIntoIter.{ByteRecordsIntoIter}

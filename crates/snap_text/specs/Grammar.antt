@@ -1,12 +1,15 @@
 -- The table of the language: which words make which command.
-use Rattle.std.specs.Prelude.{◌==◌, ◌≤◌, ℕ, List, [], ◌∷◌, Option, Some, None, Result, Ok, Err, codes, find, is_some, length, ok_or, bytes_eq, slice_index, if◌then◌else◌}
+use Rattle.std.specs.Prelude.{◌==◌, ◌≤◌, ℕ, List, [], ◌∷◌, Option, Some, None, Result, Ok, Err, is_some, length, ok_or, slice_index, if◌then◌else◌}
 use Rattle.snap_model.specs.declared.command.Command.{Command}
 use Rattle.snap_model.specs.declared.command.Command.TheVariants as command
 use Rattle.snap_text.specs.declared.fault.LineKind.{LineKind}
 use Rattle.snap_text.specs.declared.fault.LineKind.TheVariants.{UnknownWord, WordCount, BadNumber, BadName, NoSuchClone, CloneTaken, TooManyClones}
+use Rattle.snap_text.specs.declared.verb.Verb.{Verb}
+use Rattle.snap_text.specs.declared.verb.Verb.TheVariants as verb
 use Rattle.snap_text.specs.Clones.{Slots, free_slot, slot_of, with_clone, without_clone}
 use Rattle.snap_text.specs.Names.{is_file, is_name}
 use Rattle.snap_text.specs.Numbers.{greatest_key, greatest_value, number_of}
+use Rattle.snap_text.specs.Verbs.{verb_of}
 
 -- what a word after the first stands for
 pub data WordKind : Type 0 where
@@ -67,43 +70,39 @@ abbrev pub Maker : List WordKind → Type 0
 Maker [] = Action
 Maker (kind ∷ kinds) = Meaning kind → Maker kinds
 
--- a form of a line: its first word, the kinds of the others, and what it does
+-- a form of a line: the kinds of its words after the first, and what it does
 pub record Form : Type 0 where
-  pub word : List ℕ
   pub kinds : List WordKind
   pub make : Maker kinds
 
+-- forms of one clone's name, and of that and a key
+abbrev pub of_clone : (ℕ → Command) → Form
+of_clone command = record { kinds = Name ∷ []; make = λ name. on_clone name command }
+
+abbrev pub of_clone_and_key : (ℕ → ℕ → Command) → Form
+of_clone_and_key command = record { kinds = Name ∷ Key ∷ []; make = λ name key. on_clone name (λ slot. command slot key) }
+
 -- the language
-abbrev pub forms : List Form
-forms =
-    record { word = codes "use"; kinds = Name ∷ []; make = λ table. plain (command.Table table) }
-    ∷ record { word = codes "put"; kinds = Key ∷ Value ∷ []; make = λ key value. plain (command.Put key value) }
-    ∷ record { word = codes "remove"; kinds = Key ∷ []; make = λ key. plain (command.Remove key) }
-    ∷ record { word = codes "get"; kinds = Key ∷ []; make = λ key. plain (command.Get key) }
-    ∷ record { word = codes "clone"; kinds = Name ∷ []; make = make_clone }
-    ∷ record { word = codes "drop"; kinds = Name ∷ []; make = drop_clone }
-    ∷ record { word = codes "see"; kinds = Name ∷ Key ∷ []; make = λ name key. on_clone name (λ slot. command.See slot key) }
-    ∷ record { word = codes "first"; kinds = Name ∷ []; make = λ name. on_clone name command.First }
-    ∷ record { word = codes "last"; kinds = Name ∷ []; make = λ name. on_clone name command.Last }
-    ∷ record { word = codes "floor"; kinds = Name ∷ Key ∷ []; make = λ name key. on_clone name (λ slot. command.Floor slot key) }
-    ∷ record { word = codes "lower"; kinds = Name ∷ Key ∷ []; make = λ name key. on_clone name (λ slot. command.Lower slot key) }
-    ∷ record { word = codes "ceiling"; kinds = Name ∷ Key ∷ []; make = λ name key. on_clone name (λ slot. command.Ceiling slot key) }
-    ∷ record { word = codes "higher"; kinds = Name ∷ Key ∷ []; make = λ name key. on_clone name (λ slot. command.Higher slot key) }
-    ∷ record { word = codes "count"; kinds = Name ∷ Key ∷ Key ∷ []; make = λ name lo hi. on_clone name (λ slot. command.Count slot lo hi) }
-    ∷ record { word = codes "export"; kinds = Name ∷ Key ∷ Key ∷ File ∷ []; make = λ name lo hi file. on_clone name (λ slot. command.Export slot lo hi file) }
-    ∷ record { word = codes "load"; kinds = File ∷ []; make = λ file. plain (command.Load file) }
-    ∷ []
-
--- forms of one clone's name, and of that and a key, under any first word
-abbrev pub of_name : (List ℕ → Action) → Option Form
-of_name make = Some (record { word = []; kinds = Name ∷ []; make = make })
-
-abbrev pub of_name_and_key : (List ℕ → ℕ → Action) → Option Form
-of_name_and_key make = Some (record { word = []; kinds = Name ∷ Key ∷ []; make = make })
-
--- the form whose first word this is
-abbrev pub form_of : List ℕ → Option Form
-form_of word = find (λ form. bytes_eq form.word word) forms
+abbrev pub form_of : Verb → Form
+form_of verb.Use = record { kinds = Name ∷ []; make = λ table. plain (command.Table table) }
+form_of verb.Put = record { kinds = Key ∷ Value ∷ []; make = λ key value. plain (command.Put key value) }
+form_of verb.Remove = record { kinds = Key ∷ []; make = λ key. plain (command.Remove key) }
+form_of verb.Get = record { kinds = Key ∷ []; make = λ key. plain (command.Get key) }
+form_of verb.Clone = record { kinds = Name ∷ []; make = make_clone }
+form_of verb.Drop = record { kinds = Name ∷ []; make = drop_clone }
+form_of verb.See = of_clone_and_key (λ slot key. command.See slot key)
+form_of verb.First = of_clone (λ slot. command.First slot)
+form_of verb.Last = of_clone (λ slot. command.Last slot)
+form_of verb.Floor = of_clone_and_key (λ slot key. command.Floor slot key)
+form_of verb.Lower = of_clone_and_key (λ slot key. command.Lower slot key)
+form_of verb.Ceiling = of_clone_and_key (λ slot key. command.Ceiling slot key)
+form_of verb.Higher = of_clone_and_key (λ slot key. command.Higher slot key)
+form_of verb.Count = record { kinds = Name ∷ Key ∷ Key ∷ []; make = λ name lo hi. on_clone name (λ slot. command.Count slot lo hi) }
+form_of verb.Export = record {
+  kinds = Name ∷ Key ∷ Key ∷ File ∷ [];
+  make = λ name lo hi file. on_clone name (λ slot. command.Export slot lo hi file);
+}
+form_of verb.Load = record { kinds = File ∷ []; make = λ file. plain (command.Load file) }
 
 -- what follows from a meaning, where there is one
 abbrev pub and_then : {A B : Type 0} → Result A LineKind → (A → Result B LineKind) → Result B LineKind
@@ -117,20 +116,24 @@ made (kind ∷ kinds) make [] = Err WordCount
 made (kind ∷ kinds) make (word ∷ words) = and_then (meaning_of kind word) (λ meaning. made kinds (make meaning) words)
 
 -- the action of a form with these words after the first
-abbrev pub filled : Option Form → List (List ℕ) → Result Action LineKind
-filled None words = Err UnknownWord
-filled (Some form) words = if length words == length form.kinds then made form.kinds form.make words else Err WordCount
+abbrev pub filled : Form → List (List ℕ) → Result Action LineKind
+filled form words = if length words == length form.kinds then made form.kinds form.make words else Err WordCount
 
 -- what a form with these words does while these clones are live
-abbrev pub done : Option Form → List (List ℕ) → Action
+abbrev pub done : Form → List (List ℕ) → Action
 done form words slots = and_then (filled form words) (λ action. action slots)
+
+-- the same of a line's verb, if it has one
+abbrev pub done_by : Option Verb → List (List ℕ) → Action
+done_by None words slots = Err UnknownWord
+done_by (Some verb) words slots = done (form_of verb) words slots
 
 -- what a line does, by its words: a line without words, or whose first word begins with `#`, has no command
 abbrev pub line_of : List (List ℕ) → Slots → Result (Option Command × Slots) LineKind
 line_of [] slots = Ok (None, slots)
 line_of (word ∷ words) slots =
     if slice_index word 0 == 35 then Ok (None, slots)
-    else and_then (done (form_of word) words slots) (λ does. Ok (Some does.0, does.1))
+    else and_then (done_by (verb_of word) words slots) (λ does. Ok (Some does.0, does.1))
 
 -- a put's value is one that a map can hold
 abbrev pub HasValueInRange : Command → Type 0

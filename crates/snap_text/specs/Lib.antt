@@ -1,8 +1,10 @@
 pub mod Numbers
 pub mod Names
 pub mod Lines
+pub mod Verbs
 pub mod Clones
 pub mod Grammar
+pub mod Uses
 pub mod Refusals
 pub mod Scripts
 pub mod Replies

@@ -1,5 +1,5 @@
 -- Load files: a header, and records of a key and a value, as `csv` reads them.
-use Rattle.std.specs.Prelude.{ℕ, ◌+◌, ◌==◌, ◌&&◌, nat_lt, Bool, false, List, [], ◌∷◌, Option, Some, None, Result, Ok, Err, codes, bytes_eq, length, if◌then◌else◌}
+use Rattle.std.specs.Prelude.{ℕ, ◌+◌, ◌&&◌, nat_lt, Bool, false, List, [], ◌∷◌, Option, Some, None, Result, Ok, Err, codes, bytes_eq, length, if◌then◌else◌}
 use Rattle.csv.specs.Reading.{default_config, records, strip_bom}
 use Rattle.snap_text.specs.declared.fault.PairsFault.{PairsFault}
 use Rattle.snap_text.specs.declared.fault.PairsFault.TheVariants as fault

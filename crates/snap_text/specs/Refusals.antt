@@ -1,6 +1,8 @@
 -- What a reader of lines answers, where memory may be wanting.
-use Rattle.std.specs.Prelude.{◌≡◌, Result, Ok, Err}
+use Rattle.std.specs.Prelude.{◌≡◌, ℕ, Result, Ok, Err}
 use Rattle.snap_text.specs.declared.fault.LineKind.{LineKind}
+use Rattle.snap_text.specs.declared.fault.ScriptFault.{ScriptFault}
+use Rattle.snap_text.specs.declared.fault.ScriptFault.TheVariants as fault
 use Rattle.snap_text.specs.declared.refusal.Refusal.{Refusal}
 use Rattle.snap_text.specs.declared.refusal.Refusal.TheVariants.{Line, Memory}
 use Rattle.snap_text.specs.Clones.{Slots}
@@ -10,3 +12,8 @@ abbrev pub Answers : {X : Type 0} → Result (X × Slots) LineKind → Result X 
 Answers says (Ok x) later = says ≡ Ok (x, later)
 Answers says (Err (Line kind)) later = says ≡ Err kind
 Answers says (Err Memory) later = Unit {0}
+
+-- the fault of a script whose line of this number is refused so
+abbrev pub fault_in : ℕ → Refusal → ScriptFault
+fault_in line (Line kind) = fault.Line line kind
+fault_in line Memory = fault.Memory

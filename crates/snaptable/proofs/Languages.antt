@@ -1,7 +1,6 @@
 -- The commands of an accepted script can be run one after another, unless it needs more than a run has yet.
-use Rattle.std.proofs.Common.{◌≡◌, ◌≢◌, ◌<◌, ◌+◌, ◌⊎◌, ℕ, zero, suc, Bool, true, false, cond, List, [], ◌∷◌, length, get_or, set, Option, Some, None, Result, Ok, Err, refl, sym, ◌∙◌, ap, subst, inl, inr, arith}
-use Rattle.std.specs.Prelude.{◌||◌, not, find, bytes_eq, nat_eq, slice_index, is_some, is_none, position, replicate}
-use Rattle.std.specs.List.{list_any}
+use Rattle.std.proofs.Common.{◌≡◌, ◌<◌, ◌+◌, ◌⊎◌, ℕ, zero, suc, Bool, true, false, cond, List, [], ◌∷◌, length, get_or, set, Option, Some, None, Result, Ok, Err, refl, sym, ◌∙◌, ap, subst, inl, inr, arith}
+use Rattle.std.specs.Prelude.{◌||◌, not, nat_eq, slice_index, is_some, is_none, replicate}
 use native.Mathlib.Decide.{ℕ_discrete}
 use mathlib.Core.Logic.{dite}
 use Rattle.std.proofs.lemmas.List.{get_or-set_same, get_or-set_other, length-set}
@@ -13,12 +12,16 @@ use Rattle.snap_text.specs.declared.fault.LineKind.TheVariants.{CloneTaken, Word
 use Rattle.snap_text.specs.declared.fault.ScriptFault.{ScriptFault}
 use Rattle.snap_text.specs.declared.fault.ScriptFault.TheVariants as fault
 use Rattle.snap_text.specs.declared.script.Line.{Line}
-use Rattle.snap_text.specs.Clones.{Slots, all_free, has_name, slot_of, free_slot, with_clone, without_clone}
-use Rattle.snap_text.specs.Grammar.{WordKind, Meaning, meaning_of, Action, plain, in_slot, on_clone, make_in, make_clone, drop_in, drop_clone, Maker, Form, forms, form_of, and_then, made, filled, done, line_of}
+use Rattle.snap_text.specs.Clones.{Slots, all_free, has_name, slot_of, free_slot}
+use Rattle.snap_text.specs.Grammar.{WordKind, Meaning, meaning_of, Action, plain, in_slot, on_clone, make_in, make_clone, drop_in, drop_clone, Maker, Form, form_of, and_then, made, filled, done_by, line_of}
+use Rattle.snap_text.specs.declared.verb.Verb.{Verb}
+use Rattle.snap_text.specs.declared.verb.Verb.TheVariants as verb
+use Rattle.snap_text.specs.Verbs.{verb_of}
 use Rattle.snap_text.specs.Lines.{lines, words}
 use Rattle.snap_text.specs.Scripts.{is_too_long, with_command, with_line, script_from, script_of}
 use Rattle.snap_service.specs.States.{State, IsFree, IsTaken, clone_at}
-use Rattle.snap_service.specs.Commands.{CanRun, CanRunAll, state_after}
+use Rattle.snap_service.specs.Commands.{CanRun, state_after}
+use Rattle.snap_service.specs.Runs.{CanRunAll}
 use Rattle.snaptable.specs.Replies.{commands_of, first_state, needs_more, needs_more_somewhere}
 
 -- the slots that the script has taken are those of the session's clones
@@ -83,6 +86,7 @@ make_clone_runs name slots s agrees = either (is_some (slot_of slots name)) (of_
     of_slot : (o : Option ℕ) → ((slot : ℕ) → o ≡ Some slot → IsFree s slot) → Runs s (make_in o name slots)
     of_slot None free = tt
     of_slot (Some slot) free = inr (free slot refl, agrees_set slots s slot (Some name) _ (free slot refl).0 refl agrees)
+
     either : (b : Bool) → Runs s (make_in (free_slot slots) name slots) → Runs s (cond b (Err CloneTaken) (make_in (free_slot slots) name slots))
     either true runs = tt
     either false runs = runs
@@ -112,60 +116,46 @@ made_runs (kind ∷ kinds) make (word ∷ ws) makes = of_meaning (meaning_of kin
     of_meaning (Ok m) all = all m
     of_meaning (Err fault) all = tt
 
--- each form of the language does
-abbrev FormRuns : Option Form → Type 0
-FormRuns None = Unit {0}
-FormRuns (Some form) = MakesRunning form.kinds form.make
-
-abbrev EachForm : List Form → Type 0
-EachForm [] = Unit {0}
-EachForm (form ∷ fs) = MakesRunning form.kinds form.make × EachForm fs
-
-found_runs : (word : List ℕ) (fs : List Form) → EachForm fs → FormRuns (find (λ form. bytes_eq form.word word) fs)
-found_runs word [] each = tt
-found_runs word (form ∷ fs) each = either (bytes_eq form.word word) (found_runs word fs each.1)
-  where
-    either : (b : Bool) → FormRuns (find (λ f. bytes_eq f.word word) fs) → FormRuns (cond b (Some form) (find (λ f. bytes_eq f.word word) fs))
-    either true rest = each.0
-    either false rest = rest
-
 -- a command on the table in use leaves the clones
 runs_on_table : (c : Command) → ((s : State) → CanRun s [] c) → ((s : State) → (state_after s [] c).clones ≡ s.clones) → ActionRuns (plain c)
-runs_on_table c can stays slots s agrees = inr (can s, record {
-  script = agrees.script;
-  session = ap length (stays s) ∙ agrees.session;
-  taken = λ i. agrees.taken i ∙ ap (λ (clones : List (Option (List (ℕ × ℕ)))). is_some (get_or clones i None)) (sym (stays s));
-})
+runs_on_table c can stays slots s agrees = inr (
+  can s,
+  record {
+    script = agrees.script;
+    session = ap length (stays s) ∙ agrees.session;
+    taken = λ i. agrees.taken i ∙ ap (λ (clones : List (Option (List (ℕ × ℕ)))). is_some (get_or clones i None)) (sym (stays s));
+  },
+)
 
-the_forms : EachForm forms
-the_forms =
-    (λ table slots s agrees. inl refl,
-    (λ key value. runs_on_table (command.Put key value) (λ s. tt) (λ s. refl),
-    (λ key. runs_on_table (command.Remove key) (λ s. tt) (λ s. refl),
-    (λ key. runs_on_table (command.Get key) (λ s. tt) (λ s. refl),
-    (make_clone_runs,
-    (drop_clone_runs,
-    (λ name key. on_clone_runs name (λ slot. command.See slot key) (λ s slot taken. inr (taken, refl)),
-    (λ name. on_clone_runs name command.First (λ s slot taken. inr (taken, refl)),
-    (λ name. on_clone_runs name command.Last (λ s slot taken. inr (taken, refl)),
-    (λ name key. on_clone_runs name (λ slot. command.Floor slot key) (λ s slot taken. inr (taken, refl)),
-    (λ name key. on_clone_runs name (λ slot. command.Lower slot key) (λ s slot taken. inr (taken, refl)),
-    (λ name key. on_clone_runs name (λ slot. command.Ceiling slot key) (λ s slot taken. inr (taken, refl)),
-    (λ name key. on_clone_runs name (λ slot. command.Higher slot key) (λ s slot taken. inr (taken, refl)),
-    (λ name lo hi. on_clone_runs name (λ slot. command.Count slot lo hi) (λ s slot taken. inr (taken, refl)),
-    (λ name lo hi file. on_clone_runs name (λ slot. command.Export slot lo hi file) (λ s slot taken. inl refl),
-    (λ file slots s agrees. inl refl, tt))))))))))))))))
+-- each form of the language makes one
+form_runs : (v : Verb) → MakesRunning (form_of v).kinds (form_of v).make
+form_runs verb.Use = λ table slots s agrees. inl refl
+form_runs verb.Put = λ key value. runs_on_table (command.Put key value) (λ s. tt) (λ s. refl)
+form_runs verb.Remove = λ key. runs_on_table (command.Remove key) (λ s. tt) (λ s. refl)
+form_runs verb.Get = λ key. runs_on_table (command.Get key) (λ s. tt) (λ s. refl)
+form_runs verb.Clone = make_clone_runs
+form_runs verb.Drop = drop_clone_runs
+form_runs verb.See = λ name key. on_clone_runs name (λ slot. command.See slot key) (λ s slot taken. inr (taken, refl))
+form_runs verb.First = λ name. on_clone_runs name (λ slot. command.First slot) (λ s slot taken. inr (taken, refl))
+form_runs verb.Last = λ name. on_clone_runs name (λ slot. command.Last slot) (λ s slot taken. inr (taken, refl))
+form_runs verb.Floor = λ name key. on_clone_runs name (λ slot. command.Floor slot key) (λ s slot taken. inr (taken, refl))
+form_runs verb.Lower = λ name key. on_clone_runs name (λ slot. command.Lower slot key) (λ s slot taken. inr (taken, refl))
+form_runs verb.Ceiling = λ name key. on_clone_runs name (λ slot. command.Ceiling slot key) (λ s slot taken. inr (taken, refl))
+form_runs verb.Higher = λ name key. on_clone_runs name (λ slot. command.Higher slot key) (λ s slot taken. inr (taken, refl))
+form_runs verb.Count = λ name lo hi. on_clone_runs name (λ slot. command.Count slot lo hi) (λ s slot taken. inr (taken, refl))
+form_runs verb.Export = λ name lo hi file. on_clone_runs name (λ slot. command.Export slot lo hi file) (λ s slot taken. inl refl)
+form_runs verb.Load = λ file slots s agrees. inl refl
 
-filled_runs : (form : Option Form) (ws : List (List ℕ)) → FormRuns form → MadeRuns (filled form ws)
-filled_runs None ws makes = tt
-filled_runs (Some form) ws makes = either (nat_eq (length ws) (length form.kinds)) (made_runs form.kinds form.make ws makes)
+filled_runs : (form : Form) (ws : List (List ℕ)) → MakesRunning form.kinds form.make → MadeRuns (filled form ws)
+filled_runs form ws makes = either (nat_eq (length ws) (length form.kinds)) (made_runs form.kinds form.make ws makes)
   where
     either : (b : Bool) → MadeRuns (made form.kinds form.make ws) → MadeRuns (cond b (made form.kinds form.make ws) (Err WordCount))
     either true on = on
     either false on = tt
 
-done_runs : (form : Option Form) (ws : List (List ℕ)) → FormRuns form → ActionRuns (done form ws)
-done_runs form ws makes slots s agrees = of_filled (filled form ws) (filled_runs form ws makes)
+done_runs : (verb : Option Verb) (ws : List (List ℕ)) → ActionRuns (done_by verb ws)
+done_runs None ws slots s agrees = tt
+done_runs (Some v) ws slots s agrees = of_filled (filled (form_of v) ws) (filled_runs (form_of v) ws (form_runs v))
   where
     of_filled : (r : Result Action LineKind) → MadeRuns r → Runs s (and_then r (λ action. action slots))
     of_filled (Ok action) runs = runs slots s agrees
@@ -182,12 +172,13 @@ LineRuns s (Ok does) = of_command does.0 does.1
 
 line_runs : (ws : List (List ℕ)) (slots : Slots) (s : State) → Agrees slots s → LineRuns s (line_of ws slots)
 line_runs [] slots s agrees = agrees
-line_runs (word ∷ ws) slots s agrees = either (nat_eq (slice_index word 0) 35) (of_done (done (form_of word) ws slots) (done_runs (form_of word) ws (found_runs word forms the_forms) slots s agrees))
+line_runs (word ∷ ws) slots s agrees = either (nat_eq (slice_index word 0) 35) (of_done (done_by (verb_of word) ws slots) (done_runs (verb_of word) ws slots s agrees))
   where
     of_done : (r : Result (Command × Slots) LineKind) → Runs s r → LineRuns s (and_then r (λ does. Ok (Some does.0, does.1)))
     of_done (Ok does) runs = runs
     of_done (Err kind) runs = tt
-    either : (b : Bool) → LineRuns s (and_then (done (form_of word) ws slots) (λ does. Ok (Some does.0, does.1))) → LineRuns s (cond b (Ok (None, slots)) (and_then (done (form_of word) ws slots) (λ does. Ok (Some does.0, does.1))))
+
+    either : (b : Bool) → LineRuns s (and_then (done_by (verb_of word) ws slots) (λ does. Ok (Some does.0, does.1))) → LineRuns s (cond b (Ok (None, slots)) (and_then (done_by (verb_of word) ws slots) (λ does. Ok (Some does.0, does.1))))
     either true runs = agrees
     either false runs = runs
 
@@ -200,6 +191,14 @@ or_true : (a b : Bool) → b ≡ true → (a || b) ≡ true
 or_true true b is = refl
 or_true false b is = is
 
+refused_for : (n : ℕ) (s : State) (c : Command) (r : Result (List Line) ScriptFault) → needs_more c ≡ true → ScriptRuns s (with_command n (Some c) r)
+refused_for n s c (Ok ls) needs = inl (rw needs refl)
+refused_for n s c (Err fault) needs = tt
+
+goes_on : (n : ℕ) (s : State) (c : Command) (r : Result (List Line) ScriptFault) → CanRun s [] c → ScriptRuns (state_after s [] c) r → ScriptRuns s (with_command n (Some c) r)
+goes_on n s c (Ok ls) can rest = elim rest [ inl more ↦ inl (or_true (needs_more c) (needs_more_somewhere ls) more) | inr all ↦ inr (can, all) ]
+goes_on n s c (Err fault) can rest = tt
+
 with_line_runs : (n : ℕ) (s : State) (r : Result (Option Command × Slots) LineKind) (below : Slots → Result (List Line) ScriptFault) → LineRuns s r → ((later : Slots) (t : State) → Agrees later t → ScriptRuns t (below later)) → ScriptRuns s (with_line n r below)
 with_line_runs n s (Err kind) below runs rest = tt
 with_line_runs n s (Ok does) below runs rest = of_command does.0 does.1 runs
@@ -207,15 +206,9 @@ with_line_runs n s (Ok does) below runs rest = of_command does.0 does.1 runs
     of_command : (o : Option Command) (later : Slots) → LineRuns s (Ok (o, later)) → ScriptRuns s (with_command n o (below later))
     of_command None later agrees = rest later s agrees
     of_command (Some c) later line = elim line as (λ _. ScriptRuns s (with_command n (Some c) (below later))) [
-      | inl needs ↦ refused (below later) needs
-      | inr can ↦ goes_on (below later) can.0 (rest later (state_after s [] c) can.1)
+      | inl needs ↦ refused_for n s c (below later) needs
+      | inr can ↦ goes_on n s c (below later) can.0 (rest later (state_after s [] c) can.1)
     ]
-    refused : (r : Result (List Line) ScriptFault) → needs_more c ≡ true → ScriptRuns s (with_command n (Some c) r)
-    refused (Ok ls) needs = inl (rw needs refl)
-    refused (Err fault) needs = tt
-    goes_on : (r : Result (List Line) ScriptFault) → CanRun s [] c → ScriptRuns (state_after s [] c) r → ScriptRuns s (with_command n (Some c) r)
-    goes_on (Ok ls) can rest = elim rest [ inl more ↦ inl (or_true (needs_more c) (needs_more_somewhere ls) more) | inr all ↦ inr (can, all) ]
-    goes_on (Err fault) can rest = tt
 
 script_runs : (n : ℕ) (ls : List (List ℕ)) (slots : Slots) (s : State) → Agrees slots s → ScriptRuns s (script_from n slots ls)
 script_runs n [] slots s agrees = inr tt

@@ -1,7 +1,7 @@
 ghost use Rattle.std.specs.Prelude.{◌≡◌, ◌≢◌, ◌≤◌, ◌⊎◌, ◌↔◌, [], map, IfOk, IsErr};
 ghost use Rattle.std.specs.String.{string_bytes};
 ghost use Rattle.snap_io.specs.Causes.{Rose};
-ghost use Rattle.snap_service.specs.Commands.{CanRunAll};
+ghost use Rattle.snap_service.specs.Runs.{CanRunAll};
 ghost use Rattle.snaptable.specs.Words.{IsOneScript, job_of, one_script, script_name};
 ghost use Rattle.snaptable.specs.Replies.{commands_of, first_state, needs_more, needs_more_somewhere, reply_name};
 ghost use Rattle.snaptable.specs.Outcomes.{EndsIn, LacksScript};

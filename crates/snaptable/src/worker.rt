@@ -1,5 +1,5 @@
 ghost use Rattle.std.specs.Prelude.{◌≡◌, [], IfOk, OnOk};
-ghost use Rattle.snap_service.specs.Commands.{CanRunAll, state_after_all};
+ghost use Rattle.snap_service.specs.Runs.{CanRunAll, state_after_all};
 ghost use Rattle.snaptable.specs.Replies.{commands_of, reply_lines};
 
 use snap_io::Turn;

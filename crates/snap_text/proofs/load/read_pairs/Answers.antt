@@ -1,4 +1,4 @@
-use Rattle.std.proofs.Common.{ℕ, ◌≤◌, ◌∙◌, ◌∷◌, ◌++◌, ◌+◌, [], arith, rules, ◌≡◌, not, true, false, Bool, inr, length, refl, sym}
+use Rattle.std.proofs.Common.{ℕ, ◌≤◌, ◌∙◌, ◌∷◌, ◌++◌, ◌+◌, [], arith, rules, ◌≡◌, inr, length, sym}
 use Rattle.std.proofs.lemmas.List.Elements.{All-push}
 use Rattle.csv.specs.Reading.{default_config, owned_rows_reader, reader_state, strip_bom}
 use Rattle.csv.specs.Records.{fields_of}

@@ -1,4 +1,4 @@
-use Rattle.std.proofs.Common.{◌≤◌, All, ℕ, List}
+use Rattle.std.proofs.Common.{◌≤◌, All, List}
 use Rattle.csv.specs.Reading.{strip_bom}
 use Rattle.snap_text.specs.Csv.{IsReading}
 use Rattle.snap_text.specs.Loads.{Fields}

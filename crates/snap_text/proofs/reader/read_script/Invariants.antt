@@ -1,10 +1,5 @@
-use Rattle.std.specs.Prelude.{All}
-use Rattle.snap_text.specs.Grammar.{HasValueInRange}
 use Rattle.snap_text.proofs.Reading.{IsReadSoFar}
 use Rattle.snap_text.proofs.reader.read_script.Given as goal
 
 abbrev pub invariant-loop-text : goal.invariant-loop-text
-invariant-loop-text l = record {
-  script : IsReadSoFar l.fn.bytes l.script l.number l.clones l.text-iterator;
-  in_range : All (λ line. HasValueInRange line.command) l.script;
-}
+invariant-loop-text l = IsReadSoFar l.fn.bytes l.script l.number l.clones l.text-iterator

@@ -1,5 +1,5 @@
 use Rattle.std.proofs.Common.{◌≡◌, [], take}
-use Rattle.snap_service.specs.Commands.{state_after_all}
+use Rattle.snap_service.specs.Runs.{state_after_all}
 use Rattle.snaptable.specs.Replies.{commands_of, reply_lines}
 use Rattle.snaptable.proofs.worker.work.Given as goal
 
