@@ -1,0 +1,4 @@
+pub mod Loading
+pub mod Running
+pub mod Slots
+pub mod Scripts

@@ -1,21 +1,22 @@
 ghost use Rattle.std.specs.Prelude.{◌≡◌, ◌<◌, Some, length, slice_get};
 
+use crate::table::Table;
 use std::marker::Model;
 
 /// What is left of a session that ended. Contracts see it as a list: of each table in the order of the names, how
 /// many writes were made, and how many pairs its map has.
 #[derive(Debug, Drop)]
 pub struct KitReceipt {
-    pub(crate) writes: u64,
-    pub(crate) pairs: u64,
+    pub(crate) tables: Vec<Table>,
 }
 
 impl Model for KitReceipt {
-    ghost use Rattle.std.specs.Prelude.{ℕ, List, [], ◌∷◌};
+    ghost use Rattle.std.specs.Prelude.{ℕ, List};
+    ghost use Rattle.snap_service.specs.Tables.{counts_of};
 
     ghost Value = { List (ℕ × ℕ) };
 
-    ghost view = { λ r. (r.writes, r.pairs) ∷ [] };
+    ghost view = { λ r. counts_of r.tables.items };
 }
 
 impl KitReceipt {
@@ -24,7 +25,7 @@ impl KitReceipt {
         requires { table < length self.now }
         ensures { slice_get self.now table ≡ Some result }
     {
-        let _only = table;
-        (self.writes, self.pairs)
+        let table = &self.tables[table as usize];
+        (table.writes, table.map.len() as u64)
     }
 }

@@ -1,3 +1,11 @@
+mod Ascii
+mod Costs
 mod Digits
+mod Fields
+mod Loading
 mod Reading
+mod Records
+mod Rows
+mod Slots
+mod Sound
 mod Splits

@@ -1,7 +1,14 @@
 pub mod Numbers
 pub mod Names
 pub mod Lines
+pub mod Verbs
+pub mod Clones
 pub mod Grammar
+pub mod Uses
+pub mod Refusals
 pub mod Scripts
 pub mod Replies
+pub mod Tables
+pub mod Loads
+pub mod Csv
 pub mod Examples

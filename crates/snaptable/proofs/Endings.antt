@@ -1,6 +1,6 @@
 -- How a run ends, by what was found on the way.
 use Rattle.std.specs.Prelude.{◌==◌, ◌↔◌, if◌then◌else◌}
-use Rattle.std.proofs.Common.{◌≡◌, ◌<◌, ◌≤◌, ◌⊎◌, ℕ, List, length, Option, Some, None, Result, Ok, Err, IsErr, refl, sym, ◌∙◌, ap, inl, inr, true, ltb, lt-ltb, arith}
+use Rattle.std.proofs.Common.{◌≡◌, ◌<◌, ◌≤◌, ◌⊎◌, ℕ, List, length, Option, Some, None, Result, Ok, Err, IsErr, refl, sym, ◌∙◌, ap, inl, inr, Bool, true, false, cond, ltb, lt-ltb, arith}
 use Rattle.snap_io.specs.Shelves.{Files, IfTold, OfFile}
 use Rattle.snap_text.specs.declared.script.Line.{Line}
 use Rattle.snap_text.specs.declared.fault.ScriptFault.{ScriptFault}
@@ -17,6 +17,7 @@ use Rattle.snaptable.specs.declared.reading.ReadFault.TheVariants as reading
 use Rattle.snaptable.specs.Reading.{IsLonger}
 use Rattle.snaptable.specs.Stops.{status_of, stop_of_reading}
 use Rattle.snaptable.specs.Words.{job_of, one_script, script_name}
+use Rattle.snaptable.specs.Replies.{needs_more_somewhere}
 use Rattle.snaptable.specs.Outcomes.{Ending, EndsIn, ForScript, HasStatus, LacksScript, ending_of, ending_of_job, ending_of_file, ending_of_script}
 use Rattle.snaptable.specs.Outcomes.Ending.{WordsRefused, ScriptMissing, ScriptRefused, Complete}
 
@@ -86,8 +87,12 @@ status_at_stop (Complete lines) stop.Memory rf wf words only refused unread unwr
 words_only : (ws : List (List ℕ)) (f : Files) → ending_of ws f ≡ WordsRefused → IsErr (job_of ws)
 words_only ws f refused = of_job (job_of ws) refused
   where
+    of_lines : (more : Bool) (ls : List Line) → cond more ScriptRefused (Complete ls) ≡ WordsRefused → ⊥
+    of_lines true ls is = cc
+    of_lines false ls is = cc
+
     of_script : (r : Result (List Line) ScriptFault) → ending_of_script r ≡ WordsRefused → ⊥
-    of_script (Ok lines) is = cc
+    of_script (Ok ls) is = of_lines (needs_more_somewhere ls) ls is
     of_script (Err fault) is = cc
 
     of_file : (file : Option (List ℕ)) → ending_of_file file ≡ WordsRefused → ⊥

@@ -5,7 +5,9 @@ use Rattle.std.specs.Fmt.{digits}
 use Rattle.snap_io.specs.Shelves.{Files}
 use Rattle.snap_model.specs.declared.command.Command.{Command}
 use Rattle.snap_model.specs.declared.command.Command.TheVariants.{Put, Remove, Get}
+use Rattle.snap_text.specs.Clones.{all_free}
 use Rattle.snap_text.specs.Scripts.{script_of}
+use Rattle.snap_text.specs.Verbs.{verb_of}
 use Rattle.snap_text.specs.declared.script.Line.{Line}
 use Rattle.snaptable.specs.declared.words.WordsFault.TheVariants as fault
 use Rattle.snaptable.specs.Words.{job_of, one_script}
@@ -50,9 +52,9 @@ endings : (ending_of [] (with_script []) ≡ WordsRefused) × (ending_of (codes 
 endings = (refl, refl)
 
 ending_refused : ending_of (codes "a" ∷ []) (with_script (codes "get x")) ≡ ScriptRefused
-unfolding script_of
+unfolding script_of all_free verb_of
 ending_refused = refl
 
 ending_complete : ending_of (codes "a" ∷ []) (with_script (codes "get 1\n")) ≡ Complete (line 1 (Get 1) ∷ [])
-unfolding script_of
+unfolding script_of all_free verb_of
 ending_complete = refl

@@ -1,5 +1,5 @@
 -- What a run has to come to, by its words and the files that it finds.
-use Rattle.std.specs.Prelude.{◌≡◌, ◌⊎◌, ◌++◌, ◌≤◌, ℕ, List, Option, Some, None, Result, Ok, Err, ⊤, take}
+use Rattle.std.specs.Prelude.{◌≡◌, ◌⊎◌, ◌++◌, ◌≤◌, ℕ, List, Option, Some, None, Result, Ok, Err, ⊤, take, if◌then◌else◌}
 use Rattle.snap_io.specs.Shelves.{Files, SameBut, Sets, Changes, IfTold}
 use Rattle.snap_text.specs.Scripts.{script_of}
 use Rattle.snap_text.specs.declared.script.Line.{Line}
@@ -7,7 +7,7 @@ use Rattle.snap_text.specs.declared.fault.ScriptFault.{ScriptFault}
 use Rattle.snaptable.specs.declared.words.Job.{Job}
 use Rattle.snaptable.specs.declared.words.WordsFault.{WordsFault}
 use Rattle.snaptable.specs.Words.{job_of, script_name}
-use Rattle.snaptable.specs.Replies.{reply_file, reply_name}
+use Rattle.snaptable.specs.Replies.{needs_more_somewhere, reply_file, reply_name}
 use Rattle.snaptable.specs.Printed.{summary}
 
 -- how a run ends where nothing fails
@@ -17,10 +17,14 @@ pub data Ending : Type 0 where
   ScriptRefused : Ending
   Complete : List Line → Ending
 
--- by the script's meaning, by its bytes if it is there, and by the words
+-- by the script's meaning, by its bytes if it is there, and by the words; a script that needs more than a run has yet
+-- is refused too
+abbrev pub ending_of_lines : List Line → Ending
+ending_of_lines lines = if needs_more_somewhere lines then ScriptRefused else Complete lines
+
 abbrev pub ending_of_script : Result (List Line) ScriptFault → Ending
 ending_of_script (Err fault) = ScriptRefused
-ending_of_script (Ok lines) = Complete lines
+ending_of_script (Ok lines) = ending_of_lines lines
 
 abbrev pub ending_of_file : Option (List ℕ) → Ending
 ending_of_file None = ScriptMissing

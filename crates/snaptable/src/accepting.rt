@@ -1,9 +1,9 @@
-ghost use Rattle.std.specs.Prelude.{◌≡◌, ◌≢◌, ◌≤◌, ◌⊎◌, ◌↔◌, All, map, IfOk, IsErr};
+ghost use Rattle.std.specs.Prelude.{◌≡◌, ◌≢◌, ◌≤◌, ◌⊎◌, ◌↔◌, [], map, IfOk, IsErr};
 ghost use Rattle.std.specs.String.{string_bytes};
 ghost use Rattle.snap_io.specs.Causes.{Rose};
-ghost use Rattle.snap_service.specs.Tables.{IsTableCommand};
+ghost use Rattle.snap_service.specs.Runs.{CanRunAll};
 ghost use Rattle.snaptable.specs.Words.{IsOneScript, job_of, one_script, script_name};
-ghost use Rattle.snaptable.specs.Replies.{reply_name};
+ghost use Rattle.snaptable.specs.Replies.{commands_of, first_state, needs_more, needs_more_somewhere, reply_name};
 ghost use Rattle.snaptable.specs.Outcomes.{EndsIn, LacksScript};
 ghost use Rattle.snaptable.specs.Outcomes.Ending.{Complete, ScriptRefused};
 
@@ -11,8 +11,8 @@ use crate::outcome::Stop;
 use crate::reading::read_file;
 use crate::words::{DEFAULT_ROWS, Job, Work, read_words};
 use snap_io::Shelf;
-use snap_model::{Name, OutOfMemory};
-use snap_text::{Script, read_script};
+use snap_model::{Command, Name, OutOfMemory};
+use snap_text::{Line, Script, read_script};
 use std::alloc::Global;
 
 /// The most bytes of a script.
@@ -30,7 +30,7 @@ pub struct Accepted {
 /// Reads the words and the script that they name.
 pub fn accept<S: Shelf>(alloc: Global, words: &[String], shelf: &mut S) -> Result<Accepted, Stop>
     ensures script { IfOk result (λ accepted. EndsIn (map string_bytes words.now) (S.files shelf.old) (Complete accepted.script)) }
-    ensures commands { IfOk result (λ accepted. All (λ line. IsTableCommand line.command) accepted.script) }
+    ensures commands { IfOk result (λ accepted. CanRunAll first_state [] (commands_of accepted.script)) }
     ensures replies { IfOk result (λ accepted. accepted.replies ≡ reply_name (script_name (map string_bytes words.now))) }
     ensures rows { IfOk result (λ accepted. accepted.rows ≡ DEFAULT_ROWS) }
 
@@ -47,12 +47,31 @@ pub fn accept<S: Shelf>(alloc: Global, words: &[String], shelf: &mut S) -> Resul
     let name = script_of(&job);
     let bytes = read_file(alloc, shelf, name.text(), MOST_SCRIPT_BYTES)?;
     let script = read_script(alloc, &bytes)?;
+    if needs_more_somewhere(script.lines()) {
+        return Err(Stop::Script);
+    }
     let replies = reply_name(alloc, name)?;
     Ok(Accepted {
         script,
         replies,
         rows: job.rows,
     })
+}
+
+// Whether some command needs more than one table and one file, which a run doesn't have yet.
+fn needs_more_somewhere(lines: &[Line]) -> bool
+    ensures { result ≡ needs_more_somewhere lines.now }
+{
+    lines.iter().any(|line| needs_more(&line.command))
+}
+
+fn needs_more(command: &Command) -> bool
+    ensures { result ≡ needs_more command.now }
+{
+    match command {
+        Command::Table { .. } | Command::Export { .. } | Command::Load { .. } => true,
+        _ => false,
+    }
 }
 
 // The script of a job that has one.

@@ -1,7 +1,7 @@
-ghost use Rattle.std.specs.Prelude.{◌≡◌, ◌≤◌, ◌⊎◌, All, length, IfOk, IfErr, OnOk, OnErr};
+ghost use Rattle.std.specs.Prelude.{◌≡◌, ◌≤◌, ◌⊎◌, [], length, IfOk, IfErr, OnOk, OnErr};
 ghost use Rattle.snap_io.specs.Causes.{Rose};
-ghost use Rattle.snap_service.specs.Tables.{IsTableCommand};
-ghost use Rattle.snaptable.specs.Replies.{reply_file};
+ghost use Rattle.snap_service.specs.Runs.{CanRunAll};
+ghost use Rattle.snaptable.specs.Replies.{commands_of, first_state, reply_file};
 ghost use Rattle.snaptable.specs.Printed.{summary, table_of};
 ghost use Rattle.snaptable.specs.Outcomes.{IsCutOff, IsWritten};
 
@@ -33,8 +33,8 @@ pub fn carry_out<R: Wait, S: Shelf, K: Sink, T: Turn>(
     sink: &mut K,
     turn: &T,
 ) -> Result<(), Stop>
-    requires commands { All (λ line. IsTableCommand line.command) accepted.now.script }
-    requires rows { accepted.now.rows ≤ MOST_ROWS }
+    requires commands { CanRunAll first_state [] (commands_of accepted.now.script) }
+    requires rows { (1 ≤ accepted.now.rows) × (accepted.now.rows ≤ MOST_ROWS) }
     ensures done { OnOk result (IsWritten accepted.now.replies (reply_file accepted.now.script) (summary accepted.now.script) (S.files shelf.old) (S.files shelf.new) (K.written sink.old) (K.written sink.new)) }
     ensures cut_off { OnErr result (IsCutOff accepted.now.replies (reply_file accepted.now.script) (summary accepted.now.script) (S.files shelf.old) (S.files shelf.new) (K.written sink.old) (K.written sink.new)) }
     ensures stops { IfErr result (λ stop. (stop ≡ Stop.Write) ⊎ (stop ≡ Stop.Memory)) }
@@ -59,8 +59,8 @@ fn answer<R: Wait, T: Turn>(
     script: &[Line],
     turn: &T,
 ) -> Result<Answers, OutOfMemory>
-    requires commands { All (λ line. IsTableCommand line.command) script.now }
-    requires rows { rows ≤ MOST_ROWS }
+    requires commands { CanRunAll first_state [] (commands_of script.now) }
+    requires rows { (1 ≤ rows) × (rows ≤ MOST_ROWS) }
     ensures replies { IfOk result (λ answers. answers.replies.items ≡ reply_file script.now) }
     ensures writes { IfOk result (λ answers. answers.writes ≡ (table_of script.now).writes) }
     ensures pairs { IfOk result (λ answers. answers.pairs ≡ length (table_of script.now).map) }

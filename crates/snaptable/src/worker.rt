@@ -1,10 +1,10 @@
-ghost use Rattle.std.specs.Prelude.{◌≡◌, IfOk, OnOk, All, map};
-ghost use Rattle.snap_service.specs.Tables.{IsTableCommand, table_after_all};
+ghost use Rattle.std.specs.Prelude.{◌≡◌, [], IfOk, OnOk};
+ghost use Rattle.snap_service.specs.Runs.{CanRunAll, state_after_all};
 ghost use Rattle.snaptable.specs.Replies.{commands_of, reply_lines};
 
 use snap_io::Turn;
 use snap_model::OutOfMemory;
-use snap_service::Session;
+use snap_service::{Loads, Session};
 use snap_text::{Line, reply_line};
 use std::alloc::Global;
 use std::sync::Wait;
@@ -18,17 +18,18 @@ pub fn work<R: Wait, T: Turn>(
     worker: u32,
     turn: &T,
 ) -> Result<Vec<u8>, OutOfMemory>
-    requires { All (λ line. IsTableCommand line.command) script.now }
-    ensures replies { IfOk result (λ text. text.items ≡ reply_lines session.old.map (commands_of script.now)) }
-    ensures table { OnOk result (session.new ≡ table_after_all session.old (commands_of script.now)) }
+    requires { CanRunAll session.old [] (commands_of script.now) }
+    ensures replies { IfOk result (λ text. text.items ≡ reply_lines session.old (commands_of script.now)) }
+    ensures state { OnOk result (session.new ≡ state_after_all session.old [] (commands_of script.now)) }
 {
     let mut text = Vec::new(alloc);
     let mut exports = Vec::new(alloc);
+    let loads = Loads::new(alloc);
     let mut number = 0u64;
     for line in script {
         number = number.saturating_add(1);
         turn.before(worker, number);
-        let reply = session.run(rt, alloc, &line.command, &mut exports)?;
+        let reply = session.run(rt, alloc, &line.command, &loads, &mut exports)?;
         reply_line(alloc, &line.command, &reply, &mut text)?;
     }
     Ok(text)

@@ -38,7 +38,7 @@ fn status_of<R: Threads + Wait + Sync>(
 
 #[test]
 fn a_script_is_answered_and_summed_up(rt: HostRuntime) -> Result<(), Fail> {
-    let runs: [(&[u8], &[u8], &[u8]); 4] = [
+    let runs: [(&[u8], &[u8], &[u8]); 5] = [
         (
             b"",
             b"",
@@ -49,6 +49,11 @@ fn a_script_is_answered_and_summed_up(rt: HostRuntime) -> Result<(), Fail> {
             b"put 1 18446744073709551614\nget 1\n",
             b"new\nvalue 18446744073709551614\n",
             b"scripts 1 commands 2 full 0\ntable main writes 1 pairs 1\n",
+        ),
+        (
+            b"put 2 2\nput 1 1\nput 3 3\nremove 2\nclone c\nput 9 9\nsee c 2\nfirst c\ncount c 0 9\nfloor c 2\n",
+            b"new\nnew\nnew\nold 2\ncloned c\nnew\nnone\npair 1 1\ncount 2\npair 1 1\n",
+            b"scripts 1 commands 10 full 0\ntable main writes 5 pairs 3\n",
         ),
         (
             b"# two keys\r\n\n\tput 18446744073709551615 0 \r\n put 007 7\nget 8",
@@ -73,7 +78,7 @@ fn a_script_is_answered_and_summed_up(rt: HostRuntime) -> Result<(), Fail> {
 
 #[test]
 fn refused_scripts_leave_no_trace(rt: HostRuntime) -> Result<(), Fail> {
-    let scripts: [&[u8]; 9] = [
+    let scripts: [&[u8]; 12] = [
         b"put 1 1\nPUT 1 1\n",
         b"put 1\n",
         b"put 1 18446744073709551615\n",
@@ -83,6 +88,9 @@ fn refused_scripts_leave_no_trace(rt: HostRuntime) -> Result<(), Fail> {
         b"get 1\rget 2\n",
         b"get -1",
         b"use t\n",
+        b"clone c\nexport c 0 9 e\n",
+        b"load l\n",
+        b"see c 1\n",
     ];
     for script in scripts {
         let mut shelf = shelf_with(rt.alloc(), script)?;

@@ -6,7 +6,8 @@ use Rattle.snaptable.specs.declared.outcome.Stop.TheVariants as stop
 use Rattle.snaptable.specs.Reading.{IsLonger}
 use Rattle.snaptable.specs.Stops.{stop_of_reading}
 use Rattle.snaptable.specs.Words.{one_script, script_name}
-use Rattle.snaptable.proofs.Languages.{commands_on_table}
+use Rattle.snaptable.specs.Replies.{needs_more_somewhere}
+use Rattle.snaptable.proofs.Languages.{accepted_runs}
 use Rattle.snaptable.proofs.Endings.{long_stop, one_name, too_long}
 use Rattle.snaptable.proofs.accepting.accept.Goals as goal
 
@@ -23,5 +24,7 @@ returns-in_err-bytes-clause-refused g c is =
     let name : c.text.result.now ≡ script_name ws = c.text.ensures ∙ one_name _ _ same in
     too_long files ws c.in_ok-job.job c.in_ok-job.ensures.ok (subst (λ n. IsLonger files n most_bytes) name longer)
 
+-- a script that needs more than a run has is refused, and any other can be run
 pub returns-clause-commands : goal.returns-clause-commands
-returns-clause-commands g c = commands_on_table _ _ c.in_ok-script.ensures.ok
+returns-clause-commands g c =
+    accepted_runs _ _ c.in_ok-script.ensures.ok (ap needs_more_somewhere (sym c.lines.ensures) ∙ sym c.needs_more_somewhere.ensures ∙ c.if-needs_more_somewhere.false)

@@ -1,0 +1,75 @@
+-- Scripts use slots of their own count; a session that begins has the same slots free.
+use Rattle.std.proofs.Common.{suc, zero, ◌≡◌, ℕ, Bool, true, false, get_or, List, [], ◌∷◌, Option, Some, None, refl, subst}
+use Rattle.std.specs.Prelude.{map, is_some, slice_get}
+use Rattle.std.proofs.lemmas.List.{map-set}
+use Rattle.snap_model.specs.declared.command.Command.{Command}
+use Rattle.snap_model.specs.declared.command.Command.TheVariants as command
+use Rattle.snap_text.specs.declared.script.Line.{Line}
+use Rattle.snap_text.specs.Clones.{Slots, all_free}
+use Rattle.snap_text.specs.Uses.{AllUseSlots, UsesSlots, slots_after}
+use Rattle.snap_service.specs.Tables.{Table}
+use Rattle.snap_service.specs.LoadFiles.{Loads}
+use Rattle.snap_service.specs.States.{opened}
+use Rattle.snap_service.specs.Runs.{CanRunAll}
+use Rattle.snap_service.proofs.Slots.{AllFitSlots, AllServed, FitsSlots, can_run_all, taken, taken_after}
+
+-- the mark of a slot that is there
+mark_of : (slots : Slots) (slot : ℕ) (place : Option (List ℕ)) (d : Bool) → slice_get slots slot ≡ Some place → get_or (taken slots) slot d ≡ is_some place
+mark_of [] slot place d is = absurd cc
+mark_of (first ∷ slots) zero place d is = cc
+mark_of (first ∷ slots) (suc slot) place d is = mark_of slots slot place d is
+
+fits : (slots : Slots) (c : Command) → UsesSlots slots c → FitsSlots (taken slots) c
+fits slots (command.Table name) uses = tt
+fits slots (command.Put key value) uses = tt
+fits slots (command.Remove key) uses = tt
+fits slots (command.Get key) uses = tt
+fits slots (command.Snap slot name) uses = mark_of slots slot None true uses
+fits slots (command.Forget slot name) uses = mark_of slots slot (Some uses.0) false uses.1
+fits slots (command.See slot key) uses = mark_of slots slot (Some uses.0) false uses.1
+fits slots (command.First slot) uses = mark_of slots slot (Some uses.0) false uses.1
+fits slots (command.Last slot) uses = mark_of slots slot (Some uses.0) false uses.1
+fits slots (command.Floor slot key) uses = mark_of slots slot (Some uses.0) false uses.1
+fits slots (command.Lower slot key) uses = mark_of slots slot (Some uses.0) false uses.1
+fits slots (command.Ceiling slot key) uses = mark_of slots slot (Some uses.0) false uses.1
+fits slots (command.Higher slot key) uses = mark_of slots slot (Some uses.0) false uses.1
+fits slots (command.Count slot lo hi) uses = mark_of slots slot (Some uses.0) false uses.1
+fits slots (command.Depth slot) uses = mark_of slots slot (Some uses.0) false uses.1
+fits slots (command.Export slot lo hi file) uses = mark_of slots slot (Some uses.0) false uses.1
+fits slots (command.Load file) uses = tt
+
+marks_after : (slots : Slots) (c : Command) → taken (slots_after slots c) ≡ taken_after (taken slots) c
+marks_after slots (command.Table name) = refl
+marks_after slots (command.Put key value) = refl
+marks_after slots (command.Remove key) = refl
+marks_after slots (command.Get key) = refl
+marks_after slots (command.Snap slot name) = map-set is_some slots slot (Some name)
+marks_after slots (command.Forget slot name) = map-set is_some slots slot None
+marks_after slots (command.See slot key) = refl
+marks_after slots (command.First slot) = refl
+marks_after slots (command.Last slot) = refl
+marks_after slots (command.Floor slot key) = refl
+marks_after slots (command.Lower slot key) = refl
+marks_after slots (command.Ceiling slot key) = refl
+marks_after slots (command.Higher slot key) = refl
+marks_after slots (command.Count slot lo hi) = refl
+marks_after slots (command.Depth slot) = refl
+marks_after slots (command.Export slot lo hi file) = refl
+marks_after slots (command.Load file) = refl
+
+all_fit : (slots : Slots) (ls : List Line) → AllUseSlots slots ls → AllFitSlots (taken slots) (map (λ l. l.command) ls)
+all_fit slots [] uses = tt
+all_fit slots (line ∷ ls) uses = (
+  fits slots line.command uses.0,
+  subst (λ (marks : List Bool). AllFitSlots marks (map (λ (l : Line). l.command) ls)) (marks_after slots line.command)
+      (all_fit (slots_after slots line.command) ls uses.1),
+)
+
+-- a script that uses its slots well, and that is served, can be run in a session that begins
+pub script_can_run : (names : List (List ℕ)) (tables : List Table) (loads : Loads) (ls : List Line)
+    → AllUseSlots all_free ls
+    → AllServed names loads (map (λ l. l.command) ls)
+    → CanRunAll (opened names tables) loads (map (λ l. l.command) ls)
+unfolding all_free
+script_can_run names tables loads ls uses served =
+    can_run_all (opened names tables) loads (map (λ (l : Line). l.command) ls) refl (all_fit all_free ls uses) served

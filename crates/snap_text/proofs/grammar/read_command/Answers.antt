@@ -1,0 +1,113 @@
+use Rattle.std.proofs.Common.{refl}
+use Rattle.std.proofs.lemmas.Result.{err_from_is_err_and}
+use Rattle.snap_model.specs.declared.command.Command.TheVariants as command
+use Rattle.snap_text.proofs.grammar.read_command.Goals as goal
+
+pub returns-in-Use : goal.returns-in-Use
+returns-in-Use c =
+    rw c.in-Use.is (c.read_use.ensures c.args.clones.now)
+
+pub returns-in-Load : goal.returns-in-Load
+returns-in-Load c =
+    rw c.in-Load.is (c.read_load.ensures c.args.clones.now)
+
+pub returns-in-Clone : goal.returns-in-Clone
+returns-in-Clone c =
+    rw c.in-Clone.is c.read_clone.ensures
+
+pub returns-in-Drop : goal.returns-in-Drop
+returns-in-Drop c =
+    rw c.in-Drop.is c.read_drop.ensures
+
+pub returns-in-Export : goal.returns-in-Export
+returns-in-Export c =
+    rw c.in-Export.is c.read_export.ensures
+
+pub returns-in_ok-read_put-in-Put : goal.returns-in_ok-read_put-in-Put
+returns-in_ok-read_put-in-Put c =
+    let put = c.in_ok-read_put-in-Put.ensures in
+    rw (c.in-Put.is, put) refl
+
+pub returns-in_ok-read_key-in-Remove : goal.returns-in_ok-read_key-in-Remove
+returns-in_ok-read_key-in-Remove c =
+    let one = c.in_ok-one-in-Remove.ensures in
+    let key = c.in_ok-read_key-in-Remove.ensures in
+    rw (c.in-Remove.is, one, ← key) refl
+
+pub returns-in_ok-read_key-in-Get : goal.returns-in_ok-read_key-in-Get
+returns-in_ok-read_key-in-Get c =
+    let one = c.in_ok-one-in-Get.ensures in
+    let key = c.in_ok-read_key-in-Get.ensures in
+    rw (c.in-Get.is, one, ← key) refl
+
+pub returns-in_ok-slot-in-First : goal.returns-in_ok-slot-in-First
+returns-in_ok-slot-in-First c =
+    rw c.in-First.is (c.in_ok-slot-in-First.ensures (λ slot. command.First slot))
+
+pub returns-in_err-slot-in-First : goal.returns-in_err-slot-in-First
+returns-in_err-slot-in-First c =
+    let p = err_from_is_err_and c.from_residual-in_err-slot-in-First.result c.from_residual-in_err-slot-in-First.ensures.1 in
+    rw (p.1, p.2, c.in-First.is) (c.in_err-slot-in-First.ensures (λ slot. command.First slot))
+
+pub returns-in_ok-slot-in-Last : goal.returns-in_ok-slot-in-Last
+returns-in_ok-slot-in-Last c =
+    rw c.in-Last.is (c.in_ok-slot-in-Last.ensures (λ slot. command.Last slot))
+
+pub returns-in_err-slot-in-Last : goal.returns-in_err-slot-in-Last
+returns-in_err-slot-in-Last c =
+    let p = err_from_is_err_and c.from_residual-in_err-slot-in-Last.result c.from_residual-in_err-slot-in-Last.ensures.1 in
+    rw (p.1, p.2, c.in-Last.is) (c.in_err-slot-in-Last.ensures (λ slot. command.Last slot))
+
+pub returns-in_ok-slot-in-See : goal.returns-in_ok-slot-in-See
+returns-in_ok-slot-in-See c =
+    rw c.in-See.is (c.in_ok-slot-in-See.ensures (λ slot key. command.See slot key))
+
+pub returns-in_err-slot-in-See : goal.returns-in_err-slot-in-See
+returns-in_err-slot-in-See c =
+    let p = err_from_is_err_and c.from_residual-in_err-slot-in-See.result c.from_residual-in_err-slot-in-See.ensures.1 in
+    rw (p.1, p.2, c.in-See.is) (c.in_err-slot-in-See.ensures (λ slot key. command.See slot key))
+
+pub returns-in_ok-slot-in-Floor : goal.returns-in_ok-slot-in-Floor
+returns-in_ok-slot-in-Floor c =
+    rw c.in-Floor.is (c.in_ok-slot-in-Floor.ensures (λ slot key. command.Floor slot key))
+
+pub returns-in_err-slot-in-Floor : goal.returns-in_err-slot-in-Floor
+returns-in_err-slot-in-Floor c =
+    let p = err_from_is_err_and c.from_residual-in_err-slot-in-Floor.result c.from_residual-in_err-slot-in-Floor.ensures.1 in
+    rw (p.1, p.2, c.in-Floor.is) (c.in_err-slot-in-Floor.ensures (λ slot key. command.Floor slot key))
+
+pub returns-in_ok-slot-in-Lower : goal.returns-in_ok-slot-in-Lower
+returns-in_ok-slot-in-Lower c =
+    rw c.in-Lower.is (c.in_ok-slot-in-Lower.ensures (λ slot key. command.Lower slot key))
+
+pub returns-in_err-slot-in-Lower : goal.returns-in_err-slot-in-Lower
+returns-in_err-slot-in-Lower c =
+    let p = err_from_is_err_and c.from_residual-in_err-slot-in-Lower.result c.from_residual-in_err-slot-in-Lower.ensures.1 in
+    rw (p.1, p.2, c.in-Lower.is) (c.in_err-slot-in-Lower.ensures (λ slot key. command.Lower slot key))
+
+pub returns-in_ok-slot-in-Ceiling : goal.returns-in_ok-slot-in-Ceiling
+returns-in_ok-slot-in-Ceiling c =
+    rw c.in-Ceiling.is (c.in_ok-slot-in-Ceiling.ensures (λ slot key. command.Ceiling slot key))
+
+pub returns-in_err-slot-in-Ceiling : goal.returns-in_err-slot-in-Ceiling
+returns-in_err-slot-in-Ceiling c =
+    let p = err_from_is_err_and c.from_residual-in_err-slot-in-Ceiling.result c.from_residual-in_err-slot-in-Ceiling.ensures.1 in
+    rw (p.1, p.2, c.in-Ceiling.is) (c.in_err-slot-in-Ceiling.ensures (λ slot key. command.Ceiling slot key))
+
+pub returns-in_ok-slot-in-Higher : goal.returns-in_ok-slot-in-Higher
+returns-in_ok-slot-in-Higher c =
+    rw c.in-Higher.is (c.in_ok-slot-in-Higher.ensures (λ slot key. command.Higher slot key))
+
+pub returns-in_err-slot-in-Higher : goal.returns-in_err-slot-in-Higher
+returns-in_err-slot-in-Higher c =
+    let p = err_from_is_err_and c.from_residual-in_err-slot-in-Higher.result c.from_residual-in_err-slot-in-Higher.ensures.1 in
+    rw (p.1, p.2, c.in-Higher.is) (c.in_err-slot-in-Higher.ensures (λ slot key. command.Higher slot key))
+
+pub returns-in_ok-read_count-in-Count : goal.returns-in_ok-read_count-in-Count
+returns-in_ok-read_count-in-Count c =
+    rw c.in-Count.is c.in_ok-read_count-in-Count.ensures
+
+pub returns-in_err-read_count-in-Count : goal.returns-in_err-read_count-in-Count
+returns-in_err-read_count-in-Count c =
+    let p = err_from_is_err_and c.from_residual-in_err-read_count-in-Count.result c.from_residual-in_err-read_count-in-Count.ensures.1 in
+    rw (p.1, p.2, c.in-Count.is) c.in_err-read_count-in-Count.ensures

@@ -1,0 +1,33 @@
+-- How this crate uses `csv`.
+use Rattle.std.specs.Prelude.{◌≡◌, ◌<◌, ℕ, List, Some, true, false}
+use Rattle.std.specs.Borrow.{Bor}
+use Rattle.csv.specs.Reading.{Reached, Ready, default_config, is_flexible, owned_rows_left, owned_rows_reader, reader_config, reader_state, reader_trim, source_of}
+use Rattle.csv.specs.Writing.{default_writer, fields_written, has_written, writer_setup}
+use Rattle.csv.specs.declared.error.ErrorKind.{ErrorKind}
+use Rattle.csv.specs.declared.error.ErrorKind.TheVariants as kind
+use Rattle.csv.specs.declared.iter.ByteRecordsIntoIter.{ByteRecordsIntoIter}
+use Rattle.csv.specs.declared.parser.State.TheVariants as state
+use Rattle.csv.specs.declared.reader.Trim.TheVariants as trim
+use Rattle.csv.specs.declared.writer.Writer.{Writer}
+use Rattle.snap_text.specs.Loads.{Fields}
+
+-- the writer has the crate's defaults, and no field of a row is open
+abbrev pub IsBetweenRows : {W : Type 0} → Writer W → Type 0
+IsBetweenRows writer = (fields_written writer ≡ 0) × (has_written writer ≡ false) × (writer_setup writer ≡ default_writer)
+
+-- what a read of bytes may fail of: memory, or the reader underneath
+abbrev pub IsOfMemory : ErrorKind → Type 0
+IsOfMemory kind.OutOfMemory = Unit {0}
+IsOfMemory (kind.Io error) = Unit {0}
+IsOfMemory _ = ⊥
+
+-- the first rows of a text were read, of any number of fields each, and `bytes` are left
+pub record IsReading (text : List ℕ) (rows : List Fields) (reader : ByteRecordsIntoIter (Bor (List ℕ))) : Type 0 where
+  pub goes_on : 0 < owned_rows_left reader
+  pub is_ready : Ready (owned_rows_reader reader)
+  pub config : reader_config (owned_rows_reader reader) ≡ default_config
+  pub keeps_blanks : reader_trim (owned_rows_reader reader) ≡ trim.None
+  pub flexible : is_flexible (owned_rows_reader reader) ≡ true
+  pub bytes : List ℕ
+  pub left : source_of (λ slice. Some slice.now) (owned_rows_reader reader) ≡ Some bytes
+  pub reached : Reached default_config state.StartRecord text rows (reader_state (owned_rows_reader reader)) bytes
