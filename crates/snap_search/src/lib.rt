@@ -3,9 +3,11 @@
 #![tactic(auto)]
 
 mod down;
+mod places;
 mod reading;
 
 
+pub use places::{Place, find_for_write};
 pub use reading::get;
 
 
