@@ -1,5 +1,5 @@
 -- A search for a place: it begins, goes on and ends.
-use Rattle.std.proofs.Common.{◌≡◌, ◌⊎◌, inl, inr, ℕ, ◌≤◌, List, [], ◌∷◌, length, Option, Some, None, MatchOption, refl, sym, ap, ◌∙◌, subst, arith}
+use Rattle.std.proofs.Common.{◌≡◌, ◌⊎◌, inl, inr, ℕ, ◌≤◌, List, [], ◌∷◌, length, Option, Some, None, MatchOption, refl, sym, ap, ◌∙◌, subst, arith, ◌<◌}
 use Rattle.snap_model.specs.declared.call.Entry.{Entry}
 use Rattle.snap_rule.specs.declared.reader.Point.TheVariants.{Standing}
 use Rattle.snap_rule.specs.declared.reader.Reading.{Reading}
@@ -10,9 +10,10 @@ use Rattle.snap_search.specs.Work.{Works, WorksTo, IsReached}
 use Rattle.snap_search.specs.declared.places.Place.{Place}
 use Rattle.snap_search.proofs.Looking.{longer_still}
 use Rattle.snap_search.proofs.Walking.{extends_on, walks_on}
-use Rattle.snap_search.proofs.Working.{works_on, walk_works, epoch_works, set_out_works, stays_reached}
+use Rattle.snap_search.proofs.Working.{works_on, walk_works, epoch_works, set_out_works}
 use Rattle.snap_stamp.specs.declared.side.Side.{Side}
 use Rattle.snap_stamp.specs.declared.side.Side.TheVariants.{Right}
+use Rattle.snap_steps.specs.Counting.{times}
 use Rattle.snap_steps.specs.Histories.{Extends}
 use Rattle.snap_steps.specs.Seen.{Known, Becomes}
 use Rattle.snap_steps.specs.Steps.Header.{noted, epoch_noted}
@@ -26,10 +27,10 @@ either P Q R None h f g = f h
 either P Q R (Some x) h f g = g x h
 
 -- down to a child, and on
-pub down : (old a b d : Known) (x : ℕ) (r q : Reading) → HasChild old a x r → Walks a b q → Works b d [] → Works old d [] × IsReached d.view x
+pub down : (old a b d : Known) (x : ℕ) (r q : Reading) → HasChild old a x r → Walks a b q → Works b d [] → Works old d [] × (0 < times x d.view.reached)
 down old a b d x r q h w e =
     let on : Works a d [] = works_on a b d [] [] (walk_works a b q w) e in
-    (works_on old a d [] [] (walk_works old a r h.walks) on, stays_reached a.view d.view x on.kept (inr h.reached))
+    (works_on old a d [] [] (walk_works old a r h.walks) on, omega (arith, h.reached, on.kept x))
 
 seen_since : (old mid new : Known) → mid.view.who ≡ old.view.who → mid.view.mine ≡ old.view.mine → Extends old.view mid.view.seen → SeesMore mid.view new.view → Extends old.view new.view.seen
 seen_since old mid new who mine x (inl e) = subst (Extends old.view) (sym e) x

@@ -7,6 +7,7 @@ use Rattle.snap_search.specs.declared.places.Place.{Place}
 use Rattle.snap_search.specs.declared.places.Place.TheVariants.{Here, Below, Shared}
 use Rattle.snap_stamp.specs.Stamps.{IsUnmarked}
 use Rattle.snap_stamp.specs.declared.side.Side.{Side}
+use Rattle.snap_steps.specs.Counting.{times}
 use Rattle.snap_steps.specs.Histories.{Extends}
 use Rattle.snap_steps.specs.Seen.{Known}
 use Rattle.snap_steps.specs.declared.view.HeaderNote.TheVariants.{Done, Epoch}
@@ -14,7 +15,7 @@ use Rattle.snap_steps.specs.declared.view.View.{View}
 
 -- the search of the pass has ended at the place. A child can be of an earlier epoch only where this isn't the first
 abbrev pub EndsAt : ℕ → View → ℕ → ℕ → Place → Type 0
-EndsAt rows v key epoch (Here row stamp) = (row ≢ 0) × (row ≤ rows) × IsReached v row × IsUnmarked stamp × (v.reads ≡ On key (Matched row))
+EndsAt rows v key epoch (Here row stamp) = (row ≢ 0) × (row ≤ rows) × (0 < times row v.reached) × IsUnmarked stamp × (v.reads ≡ On key (Matched row))
 EndsAt rows v key epoch (Below row stamp side) = (row ≤ rows) × IsReached v row × (v.reads ≡ On key (NoLink row stamp side))
 EndsAt rows v key epoch (Shared row stamp side) = (row ≤ rows) × IsReached v row × (0 < epoch)
 

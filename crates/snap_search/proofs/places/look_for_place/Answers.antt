@@ -1,8 +1,8 @@
-use Rattle.std.proofs.Common.{rules, ◌≡◌, ◌≢◌, ℕ, ◌≤◌, ◌<◌, [], subst, sym, ap, ◌∙◌, arith}
+use Rattle.std.proofs.Common.{rules, ◌≡◌, ◌≢◌, ℕ, ◌≤◌, ◌<◌, [], subst, sym, ap, ◌∙◌, arith, inl, inr}
 use Rattle.snap_rule.specs.declared.reader.Reading.TheVariants.{On}
 use Rattle.snap_rule.specs.declared.reader.Point.TheVariants.{Standing, NoLink, Linked, Confirmed, Matched}
 use Rattle.snap_search.specs.Walk.{Walks, at_top}
-use Rattle.snap_search.specs.Work.{Works}
+use Rattle.snap_search.specs.Work.{Works, IsReached}
 use Rattle.snap_search.specs.Places.{Comes}
 use Rattle.snap_search.specs.declared.down.Spot.{Spot}
 use Rattle.snap_search.specs.declared.places.Place.{Place}
@@ -19,7 +19,7 @@ returns-in_default c =
     let ne : x ≢ 0 = search rules in
     let w = walks_on c.args.pass.now c.child_of-child.new.pass c.confirm_child.new.pass (On k (Linked s.row s.stamp s.side x)) (at_top k) (c.child_of-child.ensures.child ne).walks c.in_default.ensures in
     let z = from_top c.args.pass.now c.confirm_child.new.pass k t.result.row t.result.stamp t.result.side w t.ensures.row.0 t.ensures.row.1 t.ensures.side in
-    (omega (arith, t.ensures.row.0), Rattle.std.proofs.Common.inl t.ensures.row.0, record { works = walk_works c.args.pass.now c.confirm_child.new.pass (at_top k) w; at = z.at })
+    (omega (arith, t.ensures.row.0), inl t.ensures.row.0, record { works = walk_works c.args.pass.now c.confirm_child.new.pass (at_top k) w; at = z.at })
 
 pub returns-then-birth-epoch : goal.returns-then-birth-epoch
 returns-then-birth-epoch c =
@@ -40,7 +40,7 @@ returns-in-Some-next c =
     let h = c.in-Some-next.ensures in
     let on = works_on a b d [] [] (walk_works a b (On k (Standing n.row n.stamp n.side)) h.1) (word_works b d x Birth c.load_word-birth.result c.load_word-birth.ensures.pass) in
     let t = down c.args.pass.now c.child_of-child.new.pass a d x (On k (Linked s.row s.stamp s.side x)) (On k (Confirmed x w)) (c.child_of-child.ensures.child ne) c.in-Some.ensures.1 on in
-    (omega (arith, h.0, c.child_of-child.ensures.row), subst (λ (r : ℕ). Rattle.snap_search.specs.Work.IsReached d.view r) (sym h.0) t.1, record { works = t.0; at = ap (λ (q : Known). q.view.reads) c.load_word-birth.ensures.pass ∙ h.1.at })
+    (omega (arith, h.0, c.child_of-child.ensures.row), subst (λ (r : ℕ). IsReached d.view r) (sym h.0) (inr t.1), record { works = t.0; at = ap (λ (q : Known). q.view.reads) c.load_word-birth.ensures.pass ∙ h.1.at })
 
 pub returns-in-None : goal.returns-in-None
 returns-in-None c =
