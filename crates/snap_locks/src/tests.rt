@@ -1,8 +1,7 @@
 //! A lock that one pass holds and another wants.
 use crate::{lock, unlock};
-use snap_stamp::RowNo;
+use snap_stamp::{Field, RowNo};
 use snap_steps::{Rows, load_word, try_enter, try_lock};
-use snap_stamp::Field;
 use std::test::Fail;
 
 #[test]

@@ -100,13 +100,7 @@ pub fn confirm_child(
 
 /// Loads the key of a child to which the way leads: none where it is the one that is looked for, else where the
 /// search goes on.
-pub fn pass_by(
-    rows: &Rows,
-    pass: &mut Pass,
-    key: Key,
-    child: RowNo,
-    stamp: Stamp,
-) -> Option<Spot>
+pub fn pass_by(rows: &Rows, pass: &mut Pass, key: Key, child: RowNo, stamp: Stamp) -> Option<Spot>
     requires table { IsOf pass.old rows.now }
     requires child { child ≤ rows.now.rows }
     requires way { pass.old.view.reads ≡ On key (Confirmed child stamp) }

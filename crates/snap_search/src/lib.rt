@@ -6,10 +6,8 @@ mod down;
 mod places;
 mod reading;
 
-
 pub use places::{Place, find_for_write};
 pub use reading::get;
-
 
 #[cfg(test)]
 mod tests;

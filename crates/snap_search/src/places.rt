@@ -16,7 +16,10 @@ use std::sync::Wait;
 #[derive(Clone, Copy)]
 pub enum Place {
     /// The row has the key, and is of this epoch.
-    Here { row: RowNo, stamp: Stamp },
+    Here {
+        row: RowNo,
+        stamp: Stamp,
+    },
     /// The row is of this epoch, and its link on the side was 0.
     Below {
         row: RowNo,

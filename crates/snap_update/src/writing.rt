@@ -18,7 +18,12 @@ use std::sync::Wait;
 /// Makes the entry of the call, and answers its reply: what the map had at the key. A removal of an absent key has
 /// its entry too. `Full` comes only for a put of an absent key where every row was handed out; then there is no
 /// entry. No row is held afterwards.
-pub fn write<R: Wait>(rows: &Rows, rt: &R, pass: &mut Pass, call: &Call) -> Result<Option<u64>, Full>
+pub fn write<R: Wait>(
+    rows: &Rows,
+    rt: &R,
+    pass: &mut Pass,
+    call: &Call,
+) -> Result<Option<u64>, Full>
     requires table { IsOf pass.old rows.now }
     requires ready { IsReady pass.old.view }
     requires value { FitsWord call.now }
