@@ -1,2 +1,4 @@
 pub mod Walking
 pub mod Looking
+pub mod Working
+pub mod Finding

@@ -17,7 +17,7 @@ use Rattle.snap_steps.specs.Steps.Way.{set_out_for}
 use Rattle.snap_steps.specs.declared.view.HeaderNote.TheVariants.{Done}
 use Rattle.snap_steps.specs.declared.view.View.{View}
 
-longer_still : (v w : View) (n : ℕ) → n ≤ length v.seen → SeesMore v w → n ≤ length w.seen
+pub longer_still : (v w : View) (n : ℕ) → n ≤ length v.seen → SeesMore v w → n ≤ length w.seen
 longer_still v w n far (inl e) = subst (λ (l : List Entry). n ≤ length l) (sym e) far
 longer_still v w n far (inr x) = let b = x.goes_on in omega (arith, length-append v.seen b.rest, ap length b.is)
 

@@ -20,7 +20,7 @@ use Rattle.snap_steps.specs.declared.view.View.{View}
 pub begins_on : (xs ys zs : List Entry) → Begins xs ys → Begins ys zs → Begins xs zs
 begins_on xs ys zs a b = record { rest = a.rest ++ b.rest; is = sym (append_assoc xs a.rest b.rest) ∙ ap (λ (l : List Entry). l ++ b.rest) a.is ∙ b.is }
 
-times-append : (r : ℕ) (l m : List ℕ) → times r (l ++ m) ≡ times r l + times r m
+pub times-append : (r : ℕ) (l m : List ℕ) → times r (l ++ m) ≡ times r l + times r m
 times-append r [] m = omega arith
 times-append r (x ∷ xs) m = omega (arith, times-append r xs m)
 

@@ -1,2 +1,4 @@
 pub mod Walk
 pub mod Answers
+pub mod Work
+pub mod Places

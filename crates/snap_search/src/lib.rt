@@ -3,8 +3,10 @@
 #![tactic(auto)]
 
 mod down;
+mod places;
 mod reading;
 
+pub use places::{Place, find_for_write};
 pub use reading::get;
 
 #[cfg(test)]

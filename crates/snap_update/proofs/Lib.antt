@@ -1,0 +1,4 @@
+pub mod Holding
+pub mod Entering
+pub mod Filling
+pub mod Trying

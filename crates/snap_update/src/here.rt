@@ -1,0 +1,81 @@
+//! A write at a row that has the key.
+ghost use Rattle.std.specs.Prelude.{◌≡◌, ◌≢◌, ◌<◌, ◌≤◌, false};
+ghost use Rattle.snap_rule.specs.declared.change.Doing.TheVariants.{Nothing};
+ghost use Rattle.snap_rule.specs.Tree.{value_of};
+ghost use Rattle.snap_steps.specs.Counting.{times};
+ghost use Rattle.snap_steps.specs.Seen.{IsOf};
+ghost use Rattle.snap_steps.specs.declared.view.Stage.TheVariants.{Writing};
+ghost use Rattle.snap_update.specs.Answers.{FitsWord};
+ghost use Rattle.snap_update.specs.Attempts.{Attempts};
+ghost use Rattle.snap_update.specs.Held.{Holds, IsReady};
+
+use crate::attempt::Attempt;
+use crate::placed::epoch_of_place;
+use snap_locks::{lock, unlock};
+use snap_model::Call;
+use snap_stamp::{Field, Key, RowNo, Stamp};
+use snap_steps::{Pass, Rows, confirm_absent, load_key, load_word, store_value};
+use std::sync::Wait;
+
+/// Locks the row, writes where it is the place still, and frees it.
+pub fn write_here<R: Wait>(
+    rows: &Rows,
+    rt: &R,
+    pass: &mut Pass,
+    call: &Call,
+    row: RowNo,
+    stamp: Stamp,
+) -> Attempt
+    requires table { IsOf pass.old rows.now }
+    requires row { (row ≢ 0) × (row ≤ rows.now.rows) }
+    requires reached { 0 < times row pass.old.view.reached }
+    requires ready { IsReady pass.old.view }
+    requires value { FitsWord call.now }
+    ensures { Attempts rows.now.rows pass.old pass.new call.now result }
+{
+    lock(rows, rt, pass, row);
+    let attempt = store_here(rows, pass, call, row, stamp);
+    unlock(rows, pass, row);
+    attempt
+}
+
+fn store_here(rows: &Rows, pass: &mut Pass, call: &Call, row: RowNo, stamp: Stamp) -> Attempt
+    requires table { IsOf pass.old rows.now }
+    requires row { (row ≢ 0) × (row ≤ rows.now.rows) }
+    requires reached { 0 < times row pass.old.view.reached }
+    requires held { Holds pass.old.view row }
+    requires writing { pass.old.view.stage ≡ Writing false false }
+    requires value { FitsWord call.now }
+    ensures { Attempts rows.now.rows pass.old pass.new call.now result }
+{
+    let Some(_) = epoch_of_place(rows, pass, row, stamp) else {
+        return Attempt::Again;
+    };
+    let key = load_key(rows, pass, row);
+    let word = load_word(rows, pass, row, Field::Value);
+    match call {
+        Call::Put { key: wanted, value } => {
+            if *wanted != key {
+                return Attempt::Again;
+            }
+            Attempt::Made(value_of(store_value(rows, pass, row, key, *value + 1)))
+        }
+        Call::Remove { key: wanted } => {
+            if *wanted != key {
+                return Attempt::Again;
+            }
+            if word == 0 {
+                confirm_absent(rows, pass, row, key);
+                return Attempt::Made(None);
+            }
+            Attempt::Made(value_of(store_value(rows, pass, row, key, 0)))
+        }
+    }
+}
+
+// The value that a word stands for.
+fn value_of(word: u64) -> Option<u64>
+    ensures { result ≡ value_of word }
+{
+    if word == 0 { None } else { Some(word - 1) }
+}
