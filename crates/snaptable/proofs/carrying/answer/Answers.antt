@@ -11,12 +11,12 @@ pub returns-clause-writes : goal.returns-clause-writes
 returns-clause-writes g c =
     let start : c.in-Ok.session ≡ first_state = search rules in
     let state : c.work.new.session ≡ state_after_all first_state [] (commands_of c.args.script.now) = c.in_ok-replies.ensures.state ∙ ap (λ s. state_after_all s [] (commands_of c.args.script.now)) start in
-    let counted : c.finish.result ≡ counts_of (state_after_all first_state [] (commands_of c.args.script.now)).tables = c.finish.ensures ∙ ap (λ s. counts_of s.tables) state in
+    let counted : c.finish.result ≡ counts_of (state_after_all first_state [] (commands_of c.args.script.now)).tables = c.finish.ensures.counts ∙ ap (λ s. counts_of s.tables) state in
     (first_counts _ c.counts-writes.result (subst (λ r. slice_get r 0 ≡ Some c.counts-writes.result) counted c.counts-writes.ensures)).0
 
 pub returns-clause-pairs : goal.returns-clause-pairs
 returns-clause-pairs g c =
     let start : c.in-Ok.session ≡ first_state = search rules in
     let state : c.work.new.session ≡ state_after_all first_state [] (commands_of c.args.script.now) = c.in_ok-replies.ensures.state ∙ ap (λ s. state_after_all s [] (commands_of c.args.script.now)) start in
-    let counted : c.finish.result ≡ counts_of (state_after_all first_state [] (commands_of c.args.script.now)).tables = c.finish.ensures ∙ ap (λ s. counts_of s.tables) state in
+    let counted : c.finish.result ≡ counts_of (state_after_all first_state [] (commands_of c.args.script.now)).tables = c.finish.ensures.counts ∙ ap (λ s. counts_of s.tables) state in
     (first_counts _ c.counts-writes.result (subst (λ r. slice_get r 0 ≡ Some c.counts-writes.result) counted c.counts-writes.ensures)).1
