@@ -1,0 +1,19 @@
+//! Searches in a table without keys.
+use crate::{Place, find_for_write, get};
+use snap_stamp::Side;
+use snap_steps::Rows;
+use std::test::Fail;
+
+#[test]
+fn an_empty_table_has_no_key(rt: HostRuntime) -> Result<(), Fail> {
+    let (rows, mut passes) = Rows::open(rt.alloc(), 1, 1)?;
+    let mut p = passes.pop().ok_or("no pass")?;
+    assert_eq!(rt; get(&rows, &rt, &mut p, 7), None);
+    let Place::Below { row, stamp, side } = find_for_write(&rows, &rt, &mut p, 7) else {
+        return Err("the place is not below row 0".into());
+    };
+    assert_eq!(rt; row.number(), 0);
+    assert_eq!(rt; stamp.word(), 0);
+    assert_eq!(rt; side, Side::Right);
+    Ok(())
+}
