@@ -1,20 +1,20 @@
 -- The loads of a search, one after another.
-use Rattle.std.proofs.Common.{◌≡◌, ◌≢◌, ◌⊎◌, inl, inr, ℕ, zero, suc, ◌+◌, ◌-◌, ◌%◌, ◌<◌, ◌≤◌, ◌==◌, nat_lt, cond, Bool, true, false, eqb, eq-eqb, ne_eqb, lt-ltb, le-ltb, List, [], ◌∷◌, ◌++◌, append_assoc, length, length-append, Option, Some, None, refl, sym, ap, ◌∙◌, subst, arith}
+use Rattle.std.proofs.Common.{◌≡◌, ◌≢◌, inl, inr, ℕ, zero, suc, ◌+◌, ◌-◌, ◌%◌, ◌<◌, ◌≤◌, nat_lt, cond, Bool, eqb, eq-eqb, ne_eqb, lt-ltb, le-ltb, List, [], ◌∷◌, ◌++◌, append_assoc, Option, Some, None, refl, sym, ap, ◌∙◌, subst, arith}
 use Rattle.snap_model.specs.History.{told, Begins, calls_of}
 use Rattle.snap_model.specs.declared.call.Entry.{Entry}
 use Rattle.snap_rule.specs.Tree.{value_of}
 use Rattle.snap_rule.specs.declared.reader.Point.{Point}
-use Rattle.snap_rule.specs.declared.reader.Point.TheVariants.{Standing, NoLink, Linked, Stamped, Relinked, Confirmed, ConfirmedNone, Matched}
+use Rattle.snap_rule.specs.declared.reader.Point.TheVariants.{Standing, NoLink, Linked, Stamped, Relinked, Confirmed, Matched}
 use Rattle.snap_rule.specs.declared.reader.Reading.{Reading}
 use Rattle.snap_rule.specs.declared.reader.Reading.TheVariants.{Resting, On}
-use Rattle.snap_search.specs.Walk.{at_top, walked, Walks, HasChild, Ends, SeesMore, KeepsReached}
+use Rattle.snap_search.specs.Walk.{at_top, walked, Walks, HasChild, Confirms, Ends, SeesMore}
 use Rattle.snap_stamp.specs.Sides.{Toward}
 use Rattle.snap_stamp.specs.declared.side.Side.{Side}
 use Rattle.snap_stamp.specs.declared.side.Side.TheVariants.{Left, Right}
 use Rattle.snap_steps.specs.Counting.{times}
 use Rattle.snap_steps.specs.Histories.{Extends}
 use Rattle.snap_steps.specs.Seen.{Known, Becomes}
-use Rattle.snap_steps.specs.Steps.Way.{comes_to, read_on, settled_at, next_point, last_point, goes_on, ends_at, HasAnswer, HasBound, BoundAt}
+use Rattle.snap_steps.specs.Steps.Way.{comes_to, read_on, now_confirmed, settled_at, next_point, last_point, goes_on, ends_at, HasAnswer, HasBound, BoundAt}
 use Rattle.snap_steps.specs.declared.view.View.{View}
 
 pub begins_on : (xs ys zs : List Entry) → Begins xs ys → Begins ys zs → Begins xs zs
@@ -160,3 +160,14 @@ value_some (suc n) ne = let e : n ≡ suc n - 1 = omega arith in ap Some e
 -- a search that begins again
 pub from_top : (old new : Known) (key n v : ℕ) (d : Side) → Walks old new (at_top key) → n ≡ 0 → v ≡ 0 → d ≡ Right → Walks old new (On key (Standing n v d))
 from_top old new key n v d w row stamp side = subst (Walks old new) (λ i. On key (Standing (sym row i) (sym stamp i) (sym side i))) w
+
+-- the check by which all have led to the child
+pub confirms : (old mid new : Known) (key n v c w x : ℕ) → Walks old mid (On key (Relinked n v c w)) → Becomes mid new (read_on mid.view x) → x ≡ v → Confirms old new key c w
+confirms old mid new key n v c w x a e same = record {
+  walks = then_loads old mid new key (Relinked n v c w) x (On key (Confirmed c w)) a e (chosen x v (On key (Confirmed c w)) (at_top key) same);
+  confirmed = ap (λ (k : Known). k.view.confirmed) e ∙ ap (λ (r : Reading). now_confirmed r x mid.view.confirmed) a.at ∙ chosen x v (c ∷ []) [] same;
+}
+
+-- the load of its key keeps it so
+pub still_confirmed : (old new : Known) (key c w x : ℕ) → old.view.reads ≡ On key (Confirmed c w) → Becomes old new (read_on old.view x) → new.view.confirmed ≡ old.view.confirmed
+still_confirmed old new key c w x way e = ap (λ (k : Known). k.view.confirmed) e ∙ ap (λ (r : Reading). now_confirmed r x old.view.confirmed) way

@@ -1,7 +1,7 @@
 -- A search on its way: what its loads change of a pass.
-use Rattle.std.specs.Prelude.{◌≡◌, ◌⊎◌, ℕ, ◌<◌, ◌≤◌, Option}
+use Rattle.std.specs.Prelude.{◌≡◌, ◌⊎◌, ℕ, ◌<◌, ◌≤◌, [], ◌∷◌, Option}
 use Rattle.snap_model.specs.History.{told}
-use Rattle.snap_rule.specs.declared.reader.Point.TheVariants.{Standing}
+use Rattle.snap_rule.specs.declared.reader.Point.TheVariants.{Standing, Confirmed}
 use Rattle.snap_rule.specs.declared.reader.Reading.{Reading}
 use Rattle.snap_rule.specs.declared.reader.Reading.TheVariants.{Resting, On}
 use Rattle.snap_stamp.specs.declared.side.Side.TheVariants.{Right}
@@ -14,9 +14,9 @@ use Rattle.snap_steps.specs.declared.view.View.{View}
 abbrev pub at_top : ℕ → Reading
 at_top key = On key (Standing 0 0 Right)
 
--- the pass with what another view has of a search: its steps, what it has seen, where it stands and the rows to which it came
+-- the pass with what another view has of a search: its steps, what it has seen, where it stands, the rows to which it came and the last to which all checks led
 abbrev pub walked : Known → View → Known
-walked k w = record { table = k.table; view = record k.view { steps = w.steps; seen = w.seen; reads = w.reads; reached = w.reached } }
+walked k w = record { table = k.table; view = record k.view { steps = w.steps; seen = w.seen; reads = w.reads; confirmed = w.confirmed; reached = w.reached } }
 
 -- each row that was reached still is
 abbrev pub KeepsReached : View → View → Type 0
@@ -36,6 +36,11 @@ pub record Walks (old new : Known) (reading : Reading) : Type 0 where
 pub record HasChild (old new : Known) (child : ℕ) (reading : Reading) : Type 0 where
   pub walks : Walks old new reading
   pub reached : 0 < times child new.view.reached
+
+-- and all checks have led to the child, with this stamp
+pub record Confirms (old new : Known) (key child stamp : ℕ) : Type 0 where
+  pub walks : Walks old new (On key (Confirmed child stamp))
+  pub confirmed : new.view.confirmed ≡ child ∷ []
 
 -- the way has ended with this answer
 pub record Ends (old new : Known) (key : ℕ) (answer : Option ℕ) : Type 0 where

@@ -6,6 +6,7 @@
 #![tactic(auto)]
 
 mod absences;
+mod births;
 mod changes;
 mod draws;
 mod fields;
@@ -22,6 +23,7 @@ mod way;
 mod writes;
 
 pub use absences::confirm_absent_below;
+pub use births::{load_birth, note_birth};
 pub use changes::mark_shrinking;
 pub use draws::{Full, draw, try_draw};
 pub use fields::{load_key, load_word, store_key, store_own};
@@ -32,7 +34,7 @@ pub use locks::{free_lock, try_lock};
 pub use pass::{Note, Pass, Receipt};
 pub use rows::Rows;
 pub use seats::{admit, finish, learn, note};
-pub use view::{Admitted, Fact, HeaderNote, Role, Stage, View};
+pub use view::{Admitted, Fact, Role, Stage, View, WordNote};
 pub use way::{load_last_word, load_next_word, set_out};
 pub use writes::{confirm_absent, count_done, link_leaf, store_value};
 

@@ -1,5 +1,5 @@
 -- A seat more: a note, or a pass that is handed out; and the table at its start.
-use Rattle.std.proofs.Common.{◌≡◌, ℕ, ◌+◌, List, [], ◌∷◌, ◌++◌, refl, arith, zero, suc, ◌*◌, replicate, ap, ◌∙◌, ◌≤◌, sym, subst, ◌<◌, ◌≢◌, length, set, ⊎_elim, false, true, ◌⊎◌}
+use Rattle.std.proofs.Common.{◌≡◌, ℕ, ◌+◌, List, [], ◌∷◌, ◌++◌, refl, arith, zero, suc, ◌*◌, replicate, ap, ◌∙◌, ◌≤◌, sym, subst, ◌<◌, ◌≢◌, length, set, ⊎_elim, false, true}
 use Rattle.std.proofs.lemmas.List.{length-replicate}
 use lib.ListN.{get_elem?}
 use mathlib.Core.Logic.{dite}
@@ -43,6 +43,7 @@ use Rattle.snap_steps.specs.declared.view.Stage.TheVariants.{Idle}
 use Rattle.snap_steps.proofs.Totals.{total-set, terms_le, one_same, one_other}
 use Rattle.snap_steps.proofs.Classes.Turning.{Rule}
 use Rattle.snap_steps.specs.Rule.Worn.{KnowsWorn}
+use Rattle.snap_steps.specs.Rule.Lasting.{AreLasting}
 
 -- a note is one seat more, which counts nowhere
 pub noted_more : (about : About) (words : List ℕ) (views : List View) (k : Kept about words views) (id : ℕ) (v : View) → get_elem? views id ≡ some v → is_live v.role ≡ 1 → Kept about words (views ++ note_of v ∷ [])
@@ -96,6 +97,7 @@ noted_more about words views k id v at live = let u : View = note_of v in record
   reached = each_more views u k.reached (λ x p. p) tt;
   ways = each_more views u k.ways (λ x p. p) tt;
   worn = each_more views u k.worn (λ x p. p) (k.worn id v at);
+  lasting = each_more views u k.lasting (λ x p. p) tt;
   cut = omega (arith, k.cut, total_more all_cuts views u);
   acting = each_more views u k.acting (λ x p. p) (λ _. (refl, refl));
   apart = record { low = k.apart.low; own = each_more views u k.apart.own (λ x p. p) (λ r l. absurd (omega arith)); fresh = k.apart.fresh; wrote = each_more views u k.apart.wrote (λ x p. p) tt };
@@ -158,6 +160,7 @@ starts about words few_rows few_passes zeros =
       reached = each_one (λ u. AllLinked [] u.reached) v tt;
       ways = each_one (IsOnWay (state_of m g)) v tt;
       worn = each_one (KnowsWorn (state_of m g)) v (λ (e : false ≡ true). cc);
+      lasting = each_one (λ u. AreLasting (state_of m g) u.lasting) v tt;
       cut = refl;
       acting = each_one ActsAsPass v (λ _. (refl, refl));
       apart = record { low = λ r l. absurd (omega arith); own = each_one (IsOwn []) v (λ r l. absurd (omega arith)); fresh = λ r l z. (ap (λ (x : Row). x.lock) (row_empty (about.rows + 1) r), ap (λ (x : Row). x.stamp) (row_empty (about.rows + 1) r)); wrote = each_one (KnowsOwn m.rows) v tt };
@@ -232,6 +235,7 @@ issues about id v hands idle room s k at =
       reached = each_split s.views id w u k.reached (λ x p. p) (k.reached id v at) tt;
       ways = each_split s.views id w u k.ways (λ x p. p) (k.ways id v at) tt;
       worn = each_split s.views id w u k.worn (λ x p. p) (k.worn id v at) (λ (e : false ≡ true). cc);
+      lasting = each_split s.views id w u k.lasting (λ x p. p) (k.lasting id v at) tt;
       cut = omega (arith, k.cut, all all_cuts);
       acting = each_split s.views id w u k.acting (λ x p. p) (k.acting id v at) (λ z. absurd (omega (arith, z)));
       apart = record { low = k.apart.low; own = each_split s.views id w u k.apart.own (λ x p. p) (k.apart.own id v at) (λ r l. absurd (omega arith)); fresh = k.apart.fresh; wrote = each_split s.views id w u k.apart.wrote (λ x p. p) (k.apart.wrote id v at) tt };
