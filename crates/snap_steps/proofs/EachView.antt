@@ -1,5 +1,5 @@
 -- What holds of each view, and sums over the views, once views changed, came or were joined.
-use Rattle.std.proofs.Common.{ℕ, List, set, ⊎_elim, subst, ◌≡◌, ◌+◌, [], ◌∷◌, ◌++◌, arith, ◌∙◌, sym, ◌≢◌, suc, refl, zero, ◌⊎◌}
+use Rattle.std.proofs.Common.{ℕ, List, set, ⊎_elim, subst, ◌≡◌, ◌+◌, [], ◌∷◌, ◌++◌, arith, ◌∙◌, sym, ◌≢◌, suc, refl, zero}
 use lib.ListN.{get_elem?}
 use mathlib.Core.Option.{some, some-injective, some-ne-none}
 use Rattle.atomic_table.proofs.Lists.{at_set, at_snoc, set_else}

@@ -11,3 +11,4 @@ pub mod Leaf
 pub mod Changes
 pub mod Below
 pub mod Way
+pub mod Clones

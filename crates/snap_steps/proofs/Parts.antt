@@ -9,3 +9,4 @@ pub mod Locks
 pub mod Epochs
 pub mod Apart
 pub mod Worn
+pub mod Bases

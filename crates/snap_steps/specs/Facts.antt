@@ -1,10 +1,10 @@
 -- What a pass knows of words: those of a row that it holds, and those of a row of its own.
-use Rattle.std.specs.Prelude.{◌==◌, Bool, ℕ, ◌&&◌, cond, List, [], ◌∷◌, ◌≡◌, ◌⊎◌, ◌<◌, ◌%◌}
+use Rattle.std.specs.Prelude.{◌==◌, Bool, ℕ, ◌&&◌, cond, List, [], ◌∷◌, ◌≡◌, ◌⊎◌, ◌%◌}
 use Rattle.snap_stamp.specs.Layout.{place_of}
 use Rattle.snap_stamp.specs.declared.layout.Field.{Field}
 use Rattle.snap_stamp.specs.declared.layout.Field.TheVariants.{Birth, Stamp}
 use Rattle.snap_steps.specs.declared.view.Fact.{Fact}
-use Rattle.snap_steps.specs.Counting.{times, Among}
+use Rattle.snap_steps.specs.Counting.{Among}
 use Rattle.snap_steps.specs.Memory.{Row, row, field}
 use Rattle.snap_steps.specs.declared.view.View.{View}
 

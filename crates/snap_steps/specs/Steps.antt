@@ -9,3 +9,4 @@ pub mod Locks
 pub mod Writes
 pub mod Changes
 pub mod Way
+pub mod Clones

@@ -8,14 +8,13 @@ use Rattle.snap_rule.specs.Doing.{Concerns, DoingOk}
 use Rattle.snap_rule.specs.Rule.{TableOk, IsLive}
 use Rattle.snap_rule.specs.State.{State as Table, Beside, In}
 use Rattle.snap_rule.specs.Tree.{value_word, value_of}
-use Rattle.snap_rule.specs.Views.{ReadingOk}
 use Rattle.snap_rule.specs.declared.reader.Reading.TheVariants.{Resting}
 use Rattle.snap_stamp.specs.declared.layout.Field.TheVariants.{Birth, Stamp}
 use Rattle.snap_stamp.specs.declared.side.Side.{Side}
-use Rattle.snap_steps.specs.Counting.{times, total}
+use Rattle.snap_steps.specs.Counting.{total}
 use Rattle.snap_steps.specs.Memory.{Row, row}
 use Rattle.snap_steps.specs.Rule.Changes.{changing, HoldsIts}
-use Rattle.snap_steps.specs.Roles.{own_number, is_counted}
+use Rattle.snap_steps.specs.Roles.{is_counted}
 use Rattle.snap_steps.specs.Stages.{in_write, is_closing, is_quiet, may_cut, owes_count, has_counted}
 use Rattle.snap_steps.specs.Rule.Apart.{AreApart}
 use Rattle.snap_steps.specs.Each.{Each}
@@ -43,9 +42,11 @@ use Rattle.snap_steps.proofs.Parts.History.{history_entered}
 use Rattle.snap_steps.specs.Steps.Writes.{call_of}
 use Rattle.snap_steps.specs.Facts.{IsBorn}
 use Rattle.snap_steps.proofs.Knowing.{known_is}
+use Rattle.snap_steps.proofs.Parts.Bases.{bases_evolve}
+use Rattle.snap_steps.specs.Rule.Bases.{KnowsBase}
 use Rattle.snap_steps.specs.Rule.Worn.{KnowsWorn}
 use Rattle.snap_steps.specs.Rule.Names.{ActsAsPass}
-use Rattle.snap_steps.proofs.Parts.Worn.{worn_evolves, worns_evolve}
+use Rattle.snap_steps.proofs.Parts.Worn.{worns_evolve}
 use Rattle.snap_steps.specs.declared.view.Fact.{Fact}
 
 -- the view of a pass that has made the entry e, after which these are its own rows and what it knows
@@ -92,6 +93,7 @@ entering about words views k id v at words' rows' e b own wrote knows away memor
       reached = each_set {P = λ u. AllLinked k.g.linked u.reached} {Q = λ u. AllLinked b.linked u.reached} views id w k.reached (λ u p. all_linked_grows k.g.linked b.linked ev.linked u.reached p) (all_linked_grows k.g.linked b.linked ev.linked v.reached (k.reached id v at));
       ways = each_set {P = IsOnWay s'} {Q = IsOnWay s'} views id w (ways_evolve (state_of k.m k.g) s' views ev k.history.seen k.ways) (λ u p. p) tt;
       worn = each_stays views id v w at (KnowsWorn s') (worns_evolve (state_of k.m k.g) s' views ev k.worn) (λ p. p);
+      based = each_stays views id v w at (KnowsBase s') (bases_evolve about words views k s' ev) (λ p. (p.0, λ z. absurd (omega (arith, z))));
       cut = cut_stays views id v w at k.m.epoch k.cut refl refl;
       acting = each_stays views id v w at ActsAsPass k.acting (λ _ z. absurd (omega (arith, z, ap is_counted passing)));
       apart = apart;

@@ -1,25 +1,16 @@
 -- Two seats that are joined.
-use Rattle.std.proofs.Common.{◌≡◌, ℕ, ◌+◌, ◌<◌, ◌≤◌, List, [], ◌∷◌, length, set, sym, refl, ap, ◌∙◌, subst, arith, false, true, ⊎_elim, ◌⊎◌}
+use Rattle.std.proofs.Common.{◌≡◌, ℕ, ◌+◌, ◌≤◌, List, length, set, sym, refl, ap, ◌∙◌, arith, false, true, ⊎_elim}
 use lib.ListN.{get_elem?}
 use mathlib.Core.Option.{some}
-use Rattle.snap_model.specs.History.{Begins, calls_of}
-use Rattle.snap_rule.specs.Doing.{Concerns, DoingOk}
-use Rattle.snap_rule.specs.Views.{ReadingOk}
-use Rattle.snap_rule.specs.declared.reader.Reading.TheVariants.{Resting}
 use Rattle.snap_steps.specs.Counting.{times}
 use Rattle.snap_steps.specs.Histories.{longer}
 use Rattle.snap_steps.specs.Rule.Changes.{changing}
-use Rattle.snap_steps.specs.Roles.{gone, is_counted, is_live, is_opening}
+use Rattle.snap_steps.specs.Roles.{gone, is_counted, is_opening}
 use Rattle.snap_steps.specs.Numbers.{all_uses, all_cuts}
 use Rattle.snap_steps.specs.Stages.{in_write, is_closing, is_quiet, may_cut, owes_count, has_counted}
-use Rattle.snap_steps.specs.Rule.Notes.{KnowsHeader}
-use Rattle.snap_steps.specs.Rule.Gate.{IsAt}
 use Rattle.snap_steps.specs.Rule.Uses.{HasFewUses}
 use Rattle.snap_steps.specs.Rule.Names.{names}
-use Rattle.snap_steps.specs.Rule.History.{AllBegin, AreTheirs, whole}
-use Rattle.snap_steps.specs.Facts.{AreFacts}
-use Rattle.snap_steps.specs.Rule.Ways.{AllLinked}
-use Rattle.snap_steps.specs.Rule.Epochs.{AllAre}
+use Rattle.snap_steps.specs.Rule.History.{AreTheirs, whole}
 use Rattle.snap_steps.specs.Rule.{Kept}
 use Rattle.snap_steps.specs.States.{state_of}
 use Rattle.snap_steps.proofs.Tables.{none_changing}
@@ -32,7 +23,7 @@ use Rattle.snap_steps.proofs.Prefixes.{begins_length}
 use Rattle.snap_steps.proofs.Histories.{longer_begins, longer_length, of_between}
 use Rattle.snap_steps.proofs.EachView.{each_join, total_join, before}
 use Rattle.snap_steps.proofs.Parts.History.{whole_grows, whole_over}
-use Rattle.snap_steps.specs.Rule.Worn.{KnowsWorn}
+use Rattle.snap_steps.proofs.Parts.Bases.{no_base_is}
 use Rattle.snap_steps.specs.declared.view.Admitted.{Admitted}
 use Rattle.snap_steps.proofs.Parts.Worn.{or_cases}
 use Rattle.snap_steps.specs.Steps.Seats.{learned}
@@ -109,6 +100,7 @@ joining about words views k id v at other u apart more there passing not_opening
       reached = each_join views id v b at other u gone apart there k.reached (λ x p. p) (k.reached id v at) tt;
       ways = each_join views id v b at other u gone apart there k.ways (λ x p. p) tt tt;
       worn = each_join views id v b at other u gone apart there k.worn (λ x p. p) (λ saw. ⊎_elim (k.worn id v at) (k.worn other u before_u) (or_cases v.worn u.worn saw)) (λ (e : false ≡ true). cc);
+      based = each_join views id v b at other u gone apart there k.based (λ x p. p) (k.based id v at) (no_base_is (state_of k.m k.g), λ z. absurd (omega (arith, z)));
       apart = record {
         low = k.apart.low;
         own = each_join views id v b at other u gone apart there k.apart.own (λ x p. p) (k.apart.own id v at) (λ r l. absurd (omega arith));

@@ -1,17 +1,14 @@
 -- Steps that write no word, after which a pass knows or has seen more.
-use Rattle.std.proofs.Common.{◌≡◌, ℕ, ◌<◌, List, ◌++◌, get_or, set, sym, ap, ◌∙◌, subst, arith, refl}
+use Rattle.std.proofs.Common.{◌≡◌, ℕ, List, get_or, set, arith, refl}
 use lib.ListN.{get_elem?}
 use mathlib.Core.Option.{some}
-use Rattle.snap_model.specs.History.{Begins, calls_of}
-use Rattle.snap_rule.specs.Doing.{Concerns, DoingOk}
-use Rattle.snap_steps.specs.Counting.{times}
+use Rattle.snap_model.specs.History.{Begins}
+use Rattle.snap_rule.specs.Doing.{DoingOk}
 use Rattle.snap_steps.specs.Rule.Changes.{changing, HoldsIts}
-use Rattle.snap_steps.specs.Numbers.{numbers, numbers_of}
-use Rattle.snap_steps.specs.Roles.{own_number, is_counted}
 use Rattle.snap_steps.specs.Stages.{in_write, owes_count, has_counted}
 use Rattle.snap_steps.specs.Rule.Notes.{KnowsHeader}
 use Rattle.snap_steps.specs.Rule.Names.{names, ActsAsPass}
-use Rattle.snap_steps.specs.Rule.History.{AllBegin, AreTheirs, IsIn, IsTrueOf, whole}
+use Rattle.snap_steps.specs.Rule.History.{AllBegin, IsIn, IsTrueOf, whole}
 use Rattle.snap_steps.specs.Facts.{AreFacts}
 use Rattle.snap_steps.specs.Rule.Locks.{KnowsRows}
 use Rattle.snap_steps.specs.Rule.Ways.{AllLinked, IsOnWay}
@@ -33,6 +30,7 @@ use Rattle.snap_steps.proofs.Parts.Gate.{gated_stays}
 use Rattle.snap_steps.proofs.Parts.Locks.{locked_stays}
 use Rattle.snap_steps.proofs.Parts.Uses.{used_stays, cut_stays}
 use Rattle.snap_steps.proofs.Parts.History.{whole_grows}
+use Rattle.snap_steps.specs.Rule.Bases.{KnowsBase}
 use Rattle.snap_steps.specs.Rule.Worn.{KnowsWorn}
 
 -- the view v, in what such a step may change, as w is
@@ -79,5 +77,6 @@ seeing about words views k i id v w at knows_rows reached way present notes worn
       reached = each_stays views id v u at (λ x. AllLinked k.g.linked x.reached) k.reached (λ _. reached);
       ways = each_stays views id v u at (IsOnWay (state_of k.m k.g)) k.ways (λ _. way);
       worn = each_stays views id v u at (KnowsWorn (state_of k.m k.g)) k.worn (λ _. worn);
+      based = each_stays views id v u at (KnowsBase (state_of k.m k.g)) k.based (λ p. p);
       apart = apart_stays views id v u at k.m.next k.m.next k.m.rows k.g.linked k.apart (omega arith) (λ p. p) (λ p. p);
     }

@@ -1,5 +1,5 @@
 -- Confirming that a key is absent below the row at which its way ends keeps the rule.
-use Rattle.std.proofs.Common.{◌≡◌, ◌≢◌, ℕ, ◌<◌, ◌≤◌, ◌⊎◌, inl, inr, false, List, [], ◌∷◌, ◌++◌, get_or, set, sym, refl, ap, ◌∙◌, subst, arith, None}
+use Rattle.std.proofs.Common.{◌≡◌, ◌≢◌, ℕ, ◌⊎◌, inl, inr, false, get_or, set, sym, refl, ap, ◌∙◌, arith, None}
 use Rattle.atomic_table.specs.Table.{step, keeps, Allows}
 use Rattle.snap_model.specs.History.{told}
 use Rattle.snap_model.specs.declared.call.Call.TheVariants.{Remove}

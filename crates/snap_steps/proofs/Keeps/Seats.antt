@@ -1,5 +1,5 @@
 -- Taking a note, learning and admitting keep the rule.
-use Rattle.std.proofs.Common.{◌≡◌, ℕ, ◌+◌, List, [], ◌∷◌, ◌++◌, sym, ap, subst, refl, arith, length, ◌∙◌, ⊎_elim}
+use Rattle.std.proofs.Common.{◌≡◌, ℕ, ◌+◌, List, [], ◌∷◌, ◌++◌, sym, ap, subst, refl, arith, length, ◌∙◌}
 use mathlib.Core.Option.{none}
 use Rattle.atomic_table.proofs.Lists.{set_again}
 use Rattle.atomic_table.specs.Table.{Splits, Joins, step, keeps, Allows}
@@ -8,7 +8,7 @@ use Rattle.snap_steps.specs.Steps.Seats.{note_of, learned, took, sure, made_sure
 use Rattle.snap_steps.specs.Roles.{is_live, gone, own_number, is_counted, is_opening}
 use Rattle.snap_steps.specs.Rule.{Kept}
 use Rattle.snap_steps.specs.declared.view.View.{View}
-use Rattle.snap_steps.specs.declared.view.Role.TheVariants.{Passing, Noting}
+use Rattle.snap_steps.specs.declared.view.Role.TheVariants.{Passing}
 use Rattle.snap_steps.specs.declared.rule.About.{About}
 use Rattle.snap_steps.proofs.Classes.Turning.{Rule}
 use Rattle.snap_steps.specs.Steps.Told.{Sat}
@@ -28,7 +28,6 @@ use Rattle.snap_steps.proofs.Totals.{total-append, times-append}
 use Rattle.snap_steps.proofs.Parts.Names.{numbers_more, count_more}
 use Rattle.snap_steps.proofs.Prefixes.{begins_itself}
 use Rattle.snap_steps.proofs.Classes.Seeing.{seeing}
-use Rattle.snap_steps.proofs.Parts.Worn.{or_cases}
 
 pub notes_kept : (about : About) (id : ℕ) (v : View) → v.role ≡ Passing → Splits (Rule about) id v v (note_of v)
 notes_kept about id v passing s k at = subst (λ (l : List View). Kept about s.words (l ++ note_of v ∷ [])) (sym (set_again s.views id v at)) (noted_more about s.words s.views k id v at (ap is_live passing))

@@ -1,11 +1,11 @@
 -- The part of the rule on changes in progress.
-use Rattle.std.specs.Prelude.{ℕ, ◌+◌, ◌<◌}
+use Rattle.std.specs.Prelude.{ℕ, ◌+◌}
 use Rattle.snap_rule.specs.Doing.{Concerns}
 use Rattle.snap_rule.specs.declared.change.Doing.{Doing}
 use Rattle.snap_rule.specs.declared.change.Doing.TheVariants.{Nothing, Unlinked, Shrunk, Lowered, Lifted, Turned}
 use Rattle.snap_stamp.specs.Sides.{other}
 use Rattle.snap_stamp.specs.declared.side.Side.{Side}
-use Rattle.snap_steps.specs.Counting.{one_if, times, Among}
+use Rattle.snap_steps.specs.Counting.{one_if, Among}
 use Rattle.snap_steps.specs.declared.view.View.{View}
 use Rattle.snap_stamp.specs.declared.side.Side.TheVariants as sides
 use Rattle.snap_steps.specs.Memory.{row}

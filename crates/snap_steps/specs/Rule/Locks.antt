@@ -1,5 +1,5 @@
 -- The part of the rule on locks, and on what is known of held rows.
-use Rattle.std.specs.Prelude.{ℕ, zero, suc, ◌≡◌, ◌+◌, ◌<◌, List, ◌≤◌}
+use Rattle.std.specs.Prelude.{ℕ, zero, suc, ◌≡◌, ◌+◌, List, ◌≤◌}
 use Rattle.snap_steps.specs.Counting.{times, total, Among}
 use Rattle.snap_steps.specs.Memory.{Row, row}
 use Rattle.snap_steps.specs.declared.view.View.{View}

@@ -1,11 +1,11 @@
 -- The steps of a rotation.
-use Rattle.std.specs.Prelude.{◌≡◌, ◌≢◌, ◌⊎◌, ℕ, ◌<◌, ◌+◌, ◌∷◌}
+use Rattle.std.specs.Prelude.{◌≡◌, ◌≢◌, ◌⊎◌, ℕ, ◌+◌, ◌∷◌}
 use Rattle.atomic_table.specs.Table.{Step}
 use Rattle.snap_rule.specs.declared.change.Doing.TheVariants.{Shrunk}
 use Rattle.snap_stamp.specs.declared.layout.Field.TheVariants.{Stamp}
 use Rattle.snap_stamp.specs.declared.side.Side.{Side}
 use Rattle.snap_steps.specs.declared.view.View.{View}
-use Rattle.snap_steps.specs.Counting.{times, Among}
+use Rattle.snap_steps.specs.Counting.{Among}
 use Rattle.snap_steps.specs.States.{link_field}
 use Rattle.snap_steps.specs.Facts.{IsKnown, IsBorn, forgotten, fact}
 use Rattle.snap_steps.specs.Steps.Told.{Sat, Has}

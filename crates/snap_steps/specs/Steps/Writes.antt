@@ -1,5 +1,5 @@
 -- The steps that make the entry of a write, and the step that counts it.
-use Rattle.std.specs.Prelude.{zero, suc, ℕ, Option, true, false, List, [], ◌∷◌, ◌++◌, ◌<◌, ◌≡◌, ◌⊎◌, None}
+use Rattle.std.specs.Prelude.{zero, suc, ℕ, Option, true, false, List, [], ◌∷◌, ◌++◌, ◌≡◌, ◌⊎◌, None}
 use Rattle.atomic_table.specs.Table.{Step}
 use Rattle.snap_model.specs.declared.call.Call.{Call}
 use Rattle.snap_model.specs.declared.call.Call.TheVariants.{Put, Remove}
@@ -14,7 +14,7 @@ use Rattle.snap_stamp.specs.declared.side.Side.{Side}
 use Rattle.snap_steps.specs.declared.view.View.{View}
 use Rattle.snap_steps.specs.declared.view.Stage.TheVariants.{Writing}
 use Rattle.snap_steps.specs.Facts.{forgotten, fact, IsKnown, IsBorn, forgotten_row}
-use Rattle.snap_steps.specs.Counting.{times, removed, Among}
+use Rattle.snap_steps.specs.Counting.{removed, Among}
 use Rattle.snap_steps.specs.States.{link_field}
 use Rattle.snap_steps.specs.Steps.Told.{Sat, Has}
 use Rattle.snap_steps.specs.Histories.{Enters}
