@@ -12,3 +12,4 @@ pub mod Leaf
 pub mod Changes
 pub mod Below
 pub mod Way
+pub mod Clones

@@ -47,6 +47,12 @@ after_cut Idle = Idle
 after_cut (Writing made counted) = Writing made counted
 after_cut (Closing gate quiet cut) = Closing gate quiet true
 
+-- closing, and the cut is made
+abbrev pub has_cut : Stage → ℕ
+has_cut Idle = 0
+has_cut (Writing made counted) = 0
+has_cut (Closing gate quiet cut) = cond cut 1 0
+
 abbrev pub with_epoch : Stage → ℕ → List ℕ → List ℕ
 with_epoch Idle n l = l
 with_epoch (Writing made counted) n l = n ∷ l

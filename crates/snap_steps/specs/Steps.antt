@@ -10,3 +10,4 @@ pub mod Locks
 pub mod Writes
 pub mod Changes
 pub mod Way
+pub mod Clones

@@ -8,6 +8,8 @@
 mod absences;
 mod births;
 mod changes;
+mod clones;
+mod counter;
 mod draws;
 mod fields;
 mod front;
@@ -25,6 +27,8 @@ mod writes;
 pub use absences::confirm_absent_below;
 pub use births::{load_birth, note_birth};
 pub use changes::mark_shrinking;
+pub use clones::{RowCopy, ViewSeat, load_root, load_row, load_stamp, split_view, twin};
+pub use counter::Steps;
 pub use draws::{Full, draw, try_draw};
 pub use fields::{load_key, load_word, store_key, store_own};
 pub use front::{Front, close_rows};
@@ -34,7 +38,7 @@ pub use locks::{free_lock, try_lock};
 pub use pass::{Note, Pass, Receipt};
 pub use rows::Rows;
 pub use seats::{admit, finish, learn, note};
-pub use view::{Admitted, Fact, Role, Stage, View, WordNote};
+pub use view::{Admitted, Fact, Role, Stage, View, WordNote, Base, Part};
 pub use way::{load_last_word, load_next_word, set_out};
 pub use writes::{confirm_absent, count_done, link_leaf, store_value};
 

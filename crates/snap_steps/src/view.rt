@@ -29,7 +29,7 @@ pub enum Role {
     Opening,
     /// A pass, or the receipt of one.
     Passing,
-    /// A note.
+    /// A note, or the seat of a clone: it makes no step that others may notice.
     Noting,
     /// It was joined to another seat, and is tied to the table no longer.
     Spent,
@@ -49,6 +49,26 @@ pub struct Fact {
     pub row: u32,
     pub field: Field,
     pub word: u64,
+}
+
+/// A part of a tree that is written down from its leaves up: each node comes after its left and its right subtree.
+pub enum Part {
+    Nothing,
+    Top {
+        row: u32,
+        key: u64,
+        value: Option<u64>,
+        height: u64,
+    },
+}
+
+/// The clone that a seat reads, or that a closing pass has cut.
+pub struct Base {
+    /// The history and the tree at the cut.
+    pub history: LinkedList<Entry>,
+    pub parts: LinkedList<Part>,
+    /// How many notes the pass had then.
+    pub noted: u64,
 }
 
 /// What a seat knows.
@@ -76,6 +96,8 @@ pub struct View {
     /// How many writes it entered and closings it made.
     pub uses: u64,
     pub admitted: LinkedList<Admitted>,
+    /// The clone that it reads, or that it cut last.
+    pub base: Base,
     /// The rows whose locks it holds, and what it knows of their words.
     pub holds: LinkedList<u32>,
     pub knows: LinkedList<Fact>,

@@ -1,5 +1,5 @@
 -- A seat more: a note, or a pass that is handed out; and the table at its start.
-use Rattle.std.proofs.Common.{◌≡◌, ℕ, ◌+◌, List, [], ◌∷◌, ◌++◌, refl, arith, zero, suc, ◌*◌, replicate, ap, ◌∙◌, ◌≤◌, sym, subst, ◌<◌, ◌≢◌, length, set, ⊎_elim, false, true}
+use Rattle.std.proofs.Common.{◌≡◌, ℕ, ◌+◌, List, [], ◌∷◌, ◌++◌, refl, arith, zero, suc, ◌*◌, replicate, ap, ◌∙◌, ◌≤◌, sym, subst, ◌<◌, ◌≢◌, length, set, ⊎_elim, false, true, Bool}
 use Rattle.std.proofs.lemmas.List.{length-replicate}
 use lib.ListN.{get_elem?}
 use mathlib.Core.Logic.{dite}
@@ -7,7 +7,8 @@ use mathlib.Core.Option.{some}
 use native.Mathlib.Decide.{ℕ_discrete}
 use Rattle.atomic_table.proofs.Lists.{at_set, at_snoc}
 use Rattle.atomic_table.specs.Table.{Splits}
-use Rattle.snap_model.specs.History.{calls_of}
+use Rattle.snap_model.specs.History.{calls_of, Begins}
+use Rattle.snap_model.specs.declared.call.Entry.{Entry}
 use Rattle.snap_rule.proofs.Opened.{opens}
 use Rattle.snap_rule.specs.Doing.{DoingOk}
 use Rattle.snap_rule.specs.Rule.{TableOk, opened}
@@ -21,7 +22,7 @@ use Rattle.snap_steps.specs.Rule.Changes.{changing, HoldsIts}
 use Rattle.snap_steps.specs.Steps.Seats.{note_of, issued, next_pass}
 use Rattle.snap_steps.specs.Numbers.{all_uses, numbers_of, numbers, all_cuts}
 use Rattle.snap_steps.specs.Stages.{in_write, is_closing, is_quiet, may_cut, owes_count, has_counted}
-use Rattle.snap_steps.specs.Roles.{is_live, is_opening, opener, own_number, is_counted}
+use Rattle.snap_steps.specs.Roles.{silent, no_base, is_live, is_opening, opener, own_number, is_counted}
 use Rattle.snap_steps.specs.Rule.Names.{names, ActsAsPass}
 use Rattle.snap_steps.specs.Rule.History.{whole, IsIn, IsTrueOf}
 use Rattle.snap_steps.specs.Rule.{Kept}
@@ -42,16 +43,22 @@ use Rattle.snap_steps.specs.Rule.Words.{KnowsAbout}
 use Rattle.snap_steps.specs.declared.view.Stage.TheVariants.{Idle}
 use Rattle.snap_steps.proofs.Totals.{total-set, terms_le, one_same, one_other}
 use Rattle.snap_steps.proofs.Classes.Turning.{Rule}
-use Rattle.snap_steps.specs.Rule.Worn.{KnowsWorn}
+use Rattle.snap_steps.proofs.Parts.Bases.{no_base_is}
+use Rattle.snap_steps.specs.Rule.Bases.{IsBase, KnowsBase}
+use Rattle.snap_steps.specs.Steps.Clones.{seat_of}
+use Rattle.snap_steps.specs.declared.view.Base.{Base}
+use Rattle.snap_steps.specs.Rule.Worn.{IsWorn, KnowsWorn}
 use Rattle.snap_steps.specs.Rule.Lasting.{AreLasting}
 
--- a note is one seat more, which counts nowhere
-pub noted_more : (about : About) (words : List ℕ) (views : List View) (k : Kept about words views) (id : ℕ) (v : View) → get_elem? views id ≡ some v → is_live v.role ≡ 1 → Kept about words (views ++ note_of v ∷ [])
-noted_more about words views k id v at live = let u : View = note_of v in record {
+-- one seat more, which counts nowhere
+pub silent_more : (about : About) (words : List ℕ) (views : List View) (k : Kept about words views) (rows passes : ℕ) (seen : List Entry) (handed epochs : ℕ) (noted_worn : Bool) (base : Base)
+    → (rows ≡ about.rows) × (passes ≡ about.passes) → Begins seen k.g.history → handed ≤ k.m.next → epochs ≤ k.m.epoch → (noted_worn ≡ true → IsWorn (state_of k.m k.g)) → IsBase (state_of k.m k.g) base
+    → Kept about words (views ++ silent rows passes seen handed epochs noted_worn base ∷ [])
+silent_more about words views k rows passes seen handed epochs noted_worn base laid begins low_next low_epoch is_worn is_base = let u : View = silent rows passes seen handed epochs noted_worn base in record {
   m = k.m;
   g = k.g;
   memory = k.memory;
-  about_known = each_more views u k.about_known (λ x p. p) (λ _. k.about_known id v at live);
+  about_known = each_more views u k.about_known (λ x p. p) (λ _. laid);
   named = record {
     once = λ i. omega (arith, total_more (names i) views u, k.named.once i);
     below = λ i l. omega (arith, total_more (names i) views u, k.named.below i l);
@@ -60,7 +67,7 @@ noted_more about words views k id v at live = let u : View = note_of v in record
   };
   history = record {
     legal = k.history.legal;
-    seen = each_more views u k.history.seen (λ x p. p) ((k.history.seen id v at).0, tt);
+    seen = each_more views u k.history.seen (λ x p. p) (begins, tt);
     longest = omega (arith, total_more (whole k.g.history) views u, k.history.longest);
     mine = each_more views u k.history.mine (λ x p. p) ((λ e. absurd (omega arith)), tt, tt);
     others = λ i none. k.history.others i (omega (arith, total_more (names i) views u, none));
@@ -71,7 +78,7 @@ noted_more about words views k id v at live = let u : View = note_of v in record
     none_later = λ r l. omega (arith, total_more (λ x. times r x.drawn) views u, k.drawn.none_later r l);
     none_zero = omega (arith, total_more (λ x. times 0 x.drawn) views u, k.drawn.none_zero);
   };
-  notes = each_more views u k.notes (λ x p. p) record { notes_are = tt; handed_is = (k.notes id v at).handed_is; epochs_are = (k.notes id v at).epochs_are };
+  notes = each_more views u k.notes (λ x p. p) record { notes_are = tt; handed_is = low_next; epochs_are = low_epoch };
   gated = record {
     half = omega (arith, k.gated.half, total_more (λ x. in_write x.stage) views u, total_more (λ x. is_closing x.stage) views u);
     one = omega (arith, k.gated.one, total_more (λ x. is_closing x.stage) views u);
@@ -96,12 +103,23 @@ noted_more about words views k id v at live = let u : View = note_of v in record
   known = each_more views u k.known (λ x p. p) tt;
   reached = each_more views u k.reached (λ x p. p) tt;
   ways = each_more views u k.ways (λ x p. p) tt;
-  worn = each_more views u k.worn (λ x p. p) (k.worn id v at);
+  worn = each_more views u k.worn (λ x p. p) is_worn;
   lasting = each_more views u k.lasting (λ x p. p) tt;
+  based = each_more views u k.based (λ x p. p) (is_base, λ z. absurd (omega (arith, z)));
   cut = omega (arith, k.cut, total_more all_cuts views u);
   acting = each_more views u k.acting (λ x p. p) (λ _. (refl, refl));
   apart = record { low = k.apart.low; own = each_more views u k.apart.own (λ x p. p) (λ r l. absurd (omega arith)); fresh = k.apart.fresh; wrote = each_more views u k.apart.wrote (λ x p. p) tt };
 }
+
+-- a note is such a seat
+pub noted_more : (about : About) (words : List ℕ) (views : List View) (k : Kept about words views) (id : ℕ) (v : View) → get_elem? views id ≡ some v → is_live v.role ≡ 1 → Kept about words (views ++ note_of v ∷ [])
+noted_more about words views k id v at live = let h = k.notes id v at in
+    silent_more about words views k v.rows v.passes v.seen v.handed v.epochs v.worn no_base (k.about_known id v at live) (k.history.seen id v at).0 h.handed_is h.epochs_are (k.worn id v at) (no_base_is (state_of k.m k.g))
+
+-- and so is the seat of a clone
+pub clone_more : (about : About) (words : List ℕ) (views : List View) (k : Kept about words views) (id : ℕ) (v : View) → get_elem? views id ≡ some v → is_live v.role ≡ 1 → Kept about words (views ++ seat_of v ∷ [])
+clone_more about words views k id v at live = let h = k.notes id v at in let b = (k.based id v at).0 in
+    silent_more about words views k v.rows v.passes v.base.history v.handed v.epochs v.worn v.base (k.about_known id v at live) b.begins h.handed_is h.epochs_are (k.worn id v at) b
 
 empty_rows : (n : ℕ) → replicate (8 * n) 0 ≡ words_of_rows (replicate n empty_row)
 empty_rows zero = refl
@@ -161,6 +179,7 @@ starts about words few_rows few_passes zeros =
       ways = each_one (IsOnWay (state_of m g)) v tt;
       worn = each_one (KnowsWorn (state_of m g)) v (λ (e : false ≡ true). cc);
       lasting = each_one (λ u. AreLasting (state_of m g) u.lasting) v tt;
+      based = each_one (KnowsBase (state_of m g)) v (no_base_is (state_of m g), λ z. absurd (omega (arith, z)));
       cut = refl;
       acting = each_one ActsAsPass v (λ _. (refl, refl));
       apart = record { low = λ r l. absurd (omega arith); own = each_one (IsOwn []) v (λ r l. absurd (omega arith)); fresh = λ r l z. (ap (λ (x : Row). x.lock) (row_empty (about.rows + 1) r), ap (λ (x : Row). x.stamp) (row_empty (about.rows + 1) r)); wrote = each_one (KnowsOwn m.rows) v tt };
@@ -236,6 +255,7 @@ issues about id v hands idle room s k at =
       ways = each_split s.views id w u k.ways (λ x p. p) (k.ways id v at) tt;
       worn = each_split s.views id w u k.worn (λ x p. p) (k.worn id v at) (λ (e : false ≡ true). cc);
       lasting = each_split s.views id w u k.lasting (λ x p. p) (k.lasting id v at) tt;
+      based = each_split s.views id w u k.based (λ x p. p) (k.based id v at) (no_base_is (state_of k.m k.g), λ z. absurd (omega (arith, z)));
       cut = omega (arith, k.cut, all all_cuts);
       acting = each_split s.views id w u k.acting (λ x p. p) (k.acting id v at) (λ z. absurd (omega (arith, z)));
       apart = record { low = k.apart.low; own = each_split s.views id w u k.apart.own (λ x p. p) (k.apart.own id v at) (λ r l. absurd (omega arith)); fresh = k.apart.fresh; wrote = each_split s.views id w u k.apart.wrote (λ x p. p) (k.apart.wrote id v at) tt };

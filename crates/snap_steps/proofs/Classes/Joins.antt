@@ -22,6 +22,8 @@ use Rattle.snap_steps.proofs.Prefixes.{begins_length}
 use Rattle.snap_steps.proofs.Histories.{longer_begins, longer_length, of_between}
 use Rattle.snap_steps.proofs.EachView.{each_join, total_join, before}
 use Rattle.snap_steps.proofs.Parts.History.{whole_grows, whole_over}
+use Rattle.snap_steps.proofs.Parts.Bases.{no_base_is}
+use Rattle.snap_steps.specs.States.{state_of}
 use Rattle.snap_steps.specs.declared.view.Admitted.{Admitted}
 use Rattle.snap_steps.proofs.Parts.Worn.{or_cases}
 use Rattle.snap_steps.specs.Steps.Seats.{learned}
@@ -99,6 +101,7 @@ joining about words views k id v at other u apart more there passing not_opening
       ways = each_join views id v b at other u gone apart there k.ways (λ x p. p) tt tt;
       worn = each_join views id v b at other u gone apart there k.worn (λ x p. p) (λ saw. ⊎_elim (k.worn id v at) (k.worn other u before_u) (or_cases v.worn u.worn saw)) (λ (e : false ≡ true). cc);
       lasting = each_join views id v b at other u gone apart there k.lasting (λ x p. p) (k.lasting id v at) tt;
+      based = each_join views id v b at other u gone apart there k.based (λ x p. p) (k.based id v at) (no_base_is (state_of k.m k.g), λ z. absurd (omega (arith, z)));
       apart = record {
         low = k.apart.low;
         own = each_join views id v b at other u gone apart there k.apart.own (λ x p. p) (k.apart.own id v at) (λ r l. absurd (omega arith));

@@ -30,6 +30,7 @@ use Rattle.snap_steps.proofs.Parts.Gate.{gated_stays}
 use Rattle.snap_steps.proofs.Parts.Locks.{locked_stays}
 use Rattle.snap_steps.proofs.Parts.Uses.{used_stays, cut_stays}
 use Rattle.snap_steps.proofs.Parts.History.{whole_grows}
+use Rattle.snap_steps.specs.Rule.Bases.{KnowsBase}
 use Rattle.snap_steps.specs.Rule.Worn.{KnowsWorn}
 use Rattle.snap_steps.specs.Rule.Lasting.{AreLasting}
 
@@ -78,5 +79,6 @@ seeing about words views k i id v w at knows_rows reached way present notes worn
       ways = each_stays views id v u at (IsOnWay (state_of k.m k.g)) k.ways (λ _. way);
       worn = each_stays views id v u at (KnowsWorn (state_of k.m k.g)) k.worn (λ _. worn);
       lasting = each_stays views id v u at (λ x. AreLasting (state_of k.m k.g) x.lasting) k.lasting (λ _. lasting);
+      based = each_stays views id v u at (KnowsBase (state_of k.m k.g)) k.based (λ p. p);
       apart = apart_stays views id v u at k.m.next k.m.next k.m.rows k.g.linked k.apart (omega arith) (λ p. p) (λ p. p);
     }

@@ -37,6 +37,8 @@ use Rattle.snap_steps.specs.Steps.Header.{noted, handed_after, epochs_after}
 use Rattle.snap_steps.proofs.Memories.{loaded}
 use Rattle.snap_steps.proofs.Parts.Gate.{gated_stays}
 use Rattle.snap_steps.proofs.Parts.Uses.{used_stays, cut_stays}
+use Rattle.snap_steps.proofs.Parts.Bases.{bases_evolve, CutStays}
+use Rattle.snap_steps.specs.Rule.Bases.{KnowsBase}
 use Rattle.snap_steps.specs.Rule.Worn.{KnowsWorn}
 use Rattle.snap_steps.specs.Rule.Lasting.{AreLasting}
 use Rattle.snap_steps.proofs.Parts.Lasting.{lastings_evolve}
@@ -55,9 +57,9 @@ pub turning : (about : About) (words : List ℕ) (views : List View) (k : Kept a
     → m'.done + owes_count stage ≡ k.m.done + owes_count v.stage → m'.done + k.m.left + has_counted v.stage ≤ k.m.done + m'.left + has_counted stage → m'.rows ≡ k.m.rows → ((r : ℕ) → times r v.holds ≤ in_write stage) → AllAre k.m.epoch present × (in_write stage ≡ 0 → present ≡ [])
     → IsGated m'.gate m'.left (set views id (record v { notes = notes; handed = handed; epochs = epochs; stage = stage; uses = uses; present = present }))
     → AreUsed m'.gate m'.epoch (set views id (record v { notes = notes; handed = handed; epochs = epochs; stage = stage; uses = uses; present = present }))
-    → k.m.gate / 2 ≤ m'.gate / 2 → (m'.gate / 2 ≡ k.m.gate / 2 → in_write stage ≤ in_write v.stage) → (is_counted v.role ≡ 0 → stage ≡ Idle)
+    → k.m.gate / 2 ≤ m'.gate / 2 → (m'.gate / 2 ≡ k.m.gate / 2 → in_write stage ≤ in_write v.stage) → (is_counted v.role ≡ 0 → stage ≡ Idle) → CutStays v.stage stage
     → Kept about words' (set views id (record v { notes = notes; handed = handed; epochs = epochs; stage = stage; uses = uses; present = present }))
-turning about words views k id v at words' m' notes handed epochs stage uses present memory next epoch true_notes counted few rows writing knows_epoch gated used up entering acts =
+turning about words views k id v at words' m' notes handed epochs stage uses present memory next epoch true_notes counted few rows writing knows_epoch gated used up entering acts cut_stays_so =
     let w : View = record v { notes = notes; handed = handed; epochs = epochs; stage = stage; uses = uses; present = present } in
     let half = gated.half in let one = gated.one in let was = k.writers in
     let total_in : total (λ u. in_write u.stage) (set views id w) + in_write v.stage ≡ total (λ u. in_write u.stage) views + in_write stage = total-set (λ u. in_write u.stage) views id v w at in
@@ -87,6 +89,7 @@ turning about words views k id v at words' m' notes handed epochs stage uses pre
       ways = each_stays views id v w at (IsOnWay (state_of m' (record k.g { writers = total (λ u. in_write u.stage) (set views id w) }))) (ways_evolve (state_of k.m k.g) (state_of m' (record k.g { writers = total (λ u. in_write u.stage) (set views id w) })) views moves.0 k.history.seen k.ways) (λ p. p);
       worn = each_stays views id v w at (KnowsWorn (state_of m' (record k.g { writers = total (λ u. in_write u.stage) (set views id w) }))) (worns_evolve (state_of k.m k.g) (state_of m' (record k.g { writers = total (λ u. in_write u.stage) (set views id w) })) views moves.0 k.worn) (λ p. p);
       lasting = each_stays views id v w at (λ u. AreLasting (state_of m' (record k.g { writers = total (λ u. in_write u.stage) (set views id w) })) u.lasting) (lastings_evolve (state_of k.m k.g) (state_of m' (record k.g { writers = total (λ u. in_write u.stage) (set views id w) })) views moves.0 k.lasting) (λ p. p);
+      based = each_stays views id v w at (KnowsBase (state_of m' (record k.g { writers = total (λ u. in_write u.stage) (set views id w) }))) (bases_evolve about words views k (state_of m' (record k.g { writers = total (λ u. in_write u.stage) (set views id w) })) moves.0) (λ p. (p.0, λ z. let was = cut_stays_so z in let q = p.1 was.0 in (was.1 q.0, q.1)));
       cut = subst (λ e. e ≡ total all_cuts (set views id w)) (sym epoch) (cut_stays views id v w at k.m.epoch k.cut refl refl);
       acting = each_stays views id v w at ActsAsPass k.acting (λ p z. (acts z, (p z).1));
       apart = subst (λ l. AreApart m'.next l k.g.linked (set views id w)) (sym rows) (apart_stays views id v w at k.m.next m'.next k.m.rows k.g.linked k.apart (omega arith) (λ p. p) (λ p. p));
@@ -97,4 +100,4 @@ pub noting : (about : About) (words : List ℕ) (views : List View) (k : Kept ab
     → Kept about (set words i (get_or words i 0)) (set views id (noted v n))
 noting about words views k i id v n at is =
     turning about words views k id v at (set words i (get_or words i 0)) k.m (v.notes ++ n ∷ []) (handed_after v.handed n) (epochs_after v.epochs n) v.stage v.uses v.present (loaded k.memory i) refl refl (header_more k.m.next k.m.epoch v n (k.notes id v at) is) refl (omega arith) refl (k.locked.writing id v at) (k.present id v at)
-    (gated_stays views id v (noted v n) at k.m.gate k.m.left k.gated refl) (used_stays views id v (noted v n) at k.m.gate k.m.epoch k.used refl refl refl refl refl) (omega arith) (λ same. omega arith) (λ z. (k.acting id v at z).0)
+    (gated_stays views id v (noted v n) at k.m.gate k.m.left k.gated refl) (used_stays views id v (noted v n) at k.m.gate k.m.epoch k.used refl refl refl refl refl) (omega arith) (λ same. omega arith) (λ z. (k.acting id v at z).0) (λ z. (z, λ q. q))

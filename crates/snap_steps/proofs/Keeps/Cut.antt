@@ -1,22 +1,26 @@
 -- The cut of a clone keeps the rule.
-use Rattle.std.proofs.Common.{true, false, ◌≡◌, ℕ, ◌+◌, ◌%◌, ◌^◌, List, [], get_or, sym, refl, ap, ◌∙◌, subst, arith, length, length-append, ◌∷◌}
+use Rattle.std.proofs.Common.{◌<◌, ◌≤◌, true, false, ◌≡◌, ℕ, ◌+◌, ◌%◌, ◌^◌, List, [], get_or, sym, refl, ap, ◌∙◌, subst, arith, length, length-append, ◌∷◌}
 use lib.ListN.{get_elem?}
 use mathlib.Core.Option.{some}
 use Rattle.atomic_table.specs.Table.{step, keeps, Allows}
 use Rattle.snap_model.specs.declared.call.Entry.{Entry}
-use Rattle.snap_rule.proofs.Evolving.Telling.{cut_evolves}
+use Rattle.snap_rule.proofs.Evolving.Telling.{cut_evolves, cut_image}
+use Rattle.snap_rule.proofs.Pairs.{tree_pairs}
 use Rattle.snap_rule.proofs.Table.{cut_keeps}
 use Rattle.snap_rule.specs.Doing.{DoingOk}
 use Rattle.snap_rule.specs.Evolves.{Evolves}
 use Rattle.snap_rule.specs.Rule.{TableOk}
-use Rattle.snap_rule.specs.State.{State as Table}
+use Rattle.snap_rule.specs.State.{State as Table, In, IsImage, IsShared, Reads}
+use Rattle.snap_rule.specs.Tree.{EachRow, Tree, root}
+use Rattle.snap_rule.specs.Tree.Tree.{empty, node}
+use Rattle.snap_stamp.specs.declared.side.Side.TheVariants.{Right}
 use Rattle.snap_steps.specs.Counting.{total, times}
 use Rattle.snap_steps.specs.Memory.{Memory}
 use Rattle.snap_steps.specs.States.{state_of}
 use Rattle.snap_steps.specs.Rule.Changes.{changing, HoldsIts}
 use Rattle.snap_steps.specs.Steps.Gate.{cut_made, cut_told}
 use Rattle.snap_steps.specs.Stages.{after_cut, in_write, is_closing, is_quiet, may_cut, owes_count, has_counted}
-use Rattle.snap_steps.specs.Roles.{is_counted}
+use Rattle.snap_steps.specs.Roles.{is_counted, is_live}
 use Rattle.snap_steps.specs.Rule.Epochs.{AllAre, KnowsEpoch}
 use Rattle.snap_steps.specs.Rule.Gate.{IsAt}
 use Rattle.snap_steps.specs.Rule.History.{IsIn, IsTrueOf, whole}
@@ -33,7 +37,7 @@ use Rattle.snap_steps.proofs.Totals.{total-set, term_le}
 use Rattle.snap_steps.proofs.Notes.{header_later}
 use Rattle.snap_steps.proofs.Prefixes.{begins_itself, begins_length}
 use Rattle.snap_steps.proofs.Memories.{epoch_is, epoch_set}
-use Rattle.snap_steps.proofs.Tables.{ways_evolve, doings_stay, none_changing}
+use Rattle.snap_steps.proofs.Tables.{in_times, ways_evolve, doings_stay, none_changing}
 use Rattle.snap_steps.proofs.Parts.Apart.{apart_stays}
 use Rattle.snap_steps.proofs.Parts.Drawn.{drawn_stays}
 use Rattle.snap_steps.proofs.Parts.Names.{named_stays}
@@ -45,16 +49,24 @@ use Rattle.snap_steps.proofs.Classes.Turning.{Rule}
 use Rattle.snap_steps.specs.Steps.Told.{Sat}
 use mathlib.Core.Option as maybe
 use Rattle.snap_rule.specs.Kinds.Clones as clone_kinds
+use Rattle.snap_steps.proofs.Parts.Bases.{bases_evolve, tree_of-parts}
+use Rattle.snap_steps.specs.Clones.{ArePlaced, IsCloneOf, parts_of, tree_of}
+use Rattle.snap_steps.specs.Rule.Bases.{IsBase}
 use Rattle.snap_steps.specs.Rule.Worn.{KnowsWorn}
 use Rattle.snap_steps.specs.Rule.Lasting.{AreLasting}
 use Rattle.snap_steps.proofs.Parts.Lasting.{lastings_evolve}
 use Rattle.snap_steps.proofs.Parts.Worn.{worns_evolve}
 use Rattle.snap_steps.specs.Numbers.{all_cuts}
 
+-- rows that were linked are rows of the table
+placed_rows : (linked : List ℕ) (rows : ℕ) (s : Table) (t : Tree) → Reads s s.link t → EachRow (λ r. In r linked × IsShared s r) t → ((y : ℕ) → In y linked → y ≤ rows) → ArePlaced rows t
+placed_rows linked rows s empty r e low = tt
+placed_rows linked rows s (node n a b) r e low = ((r.0.is_row, low n.row e.0.0), placed_rows linked rows s a r.3 e.1 low, placed_rows linked rows s b r.4 e.2 low)
+
 -- `cut`
 pub cuts : (about : About) (slots id : ℕ) (me : Sat) (gate : ℕ) → me.0.role ≡ Passing → me.0.joined ≡ [] → me.0.stage ≡ Closing gate true false → Allows (Rule about) slots id me 4 (λ n. (n + 1) % 2 ^ 64) (cut_told (step slots 4 1 0 maybe.none) me)
 cuts about slots id me gate passing alone closing s k wide at small =
-    let v : View = me.0 in let views : List View = s.views in let log : List Entry = k.g.history in let w : View = cut_made v log in
+    let v : View = me.0 in let views : List View = s.views in let log : List Entry = k.g.history in let w : View = cut_made v log k.g.tree in
     let r : ℕ = get_or s.words 4 0 in let is : r ≡ k.m.epoch = epoch_is k.memory in let g = k.gated in let new : ℕ = (r + 1) % 2 ^ 64 in
     let low = epoch_small about.passes k.m.gate k.m.epoch views k.memory.few_passes k.named k.used in
     let up : new ≡ k.m.epoch + 1 = omega arith in
@@ -73,6 +85,11 @@ cuts about slots id me gate passing alone closing s k wide at small =
     let path : clone_kinds.cut st ≡ s' = ap (λ (e : ℕ). let m : Memory = record k.m { epoch = e } in state_of m k.g) (sym up) in
     let ev : Evolves st s' = subst (Evolves st) path (cut_evolves st k.table.tree k.table.links k.table.changes may) in
     let ok : TableOk s' = subst TableOk path (cut_keeps st k.table may) in
+    let image = subst (λ (z : Table). IsImage z (st.link 0 Right) k.g.tree) path (cut_image st k.table.tree k.table.links k.table.changes may) in
+    let clone : IsCloneOf log k.g.tree = record { legal = k.history.legal; ordered = k.table.tree.ordered; tells = tree_pairs st k.table.tree } in
+    let is_tree : tree_of (parts_of k.g.tree) ≡ k.g.tree = tree_of-parts k.g.tree in
+    let top : s'.link 0 Right ≡ root (tree_of (parts_of k.g.tree)) = sym image.top ∙ sym (ap root is_tree) in
+    let base : IsBase s' w.base = record { begins = begins_itself log; image = subst (λ (t : Tree). IsImage s' (root t) t) (sym is_tree) (record { top = refl; reads = image.reads; rows = image.rows }); clone = subst (IsCloneOf log) (sym is_tree) clone } in
     let seen = k.history.seen id v at in let own = (k.history.mine id v at).0 (ap is_counted passing) in let more = seen.0 in
     let no_epochs : (u : View) → in_write u.stage ≡ 0 → KnowsEpoch k.m.epoch u → KnowsEpoch new u = λ (u : View) (z : in_write u.stage ≡ 0) (h : KnowsEpoch k.m.epoch u). (subst (AllAre new) (sym (h.1 z)) tt, h.1) in (
       w,
@@ -109,9 +126,10 @@ cuts about slots id me gate passing alone closing s k wide at small =
         ways = each_set {P = IsOnWay s'} {Q = IsOnWay s'} views id w (ways_evolve st s' views ev k.history.seen k.ways) (λ u p. p) tt;
         worn = each_stays views id v w at (KnowsWorn s') (worns_evolve st s' views ev k.worn) (λ p. p);
         lasting = each_stays views id v w at (λ u. AreLasting s' u.lasting) (lastings_evolve st s' views ev k.lasting) (λ p. p);
+        based = each_others views id v at w (λ j u ne there. bases_evolve about s.words views k s' ev j u there) (base, λ _. (ap is_quiet stage, top));
         cut = omega (arith, k.cut, up, total-set all_cuts views id v w at, length-append v.cuts (length log ∷ []));
         acting = each_stays views id v w at ActsAsPass k.acting (λ _ z. absurd (omega (arith, z, ap is_counted passing)));
         apart = apart_stays views id v w at k.m.next k.m.next k.m.rows k.g.linked k.apart (omega arith) (λ p. p) (λ p. p);
       },
-      (log, record { goes_on = more; legal = k.history.legal; own = sym own.0 }, refl),
+      (log, k.g.tree, record { goes_on = more; legal = k.history.legal; own = sym own.0 }, clone, placed_rows k.g.linked v.rows s' k.g.tree image.reads image.rows (λ y is_in. let room = k.memory.room in omega (arith, (k.apart.low y (in_times y k.g.linked is_in)).1, (k.about_known id v at (ap is_live passing)).0)), refl),
     )

@@ -38,6 +38,7 @@ use Rattle.snap_steps.proofs.Parts.Uses.{used_stays, cut_stays}
 use Rattle.snap_steps.proofs.Parts.History.{history_stays}
 use Rattle.snap_steps.proofs.Classes.Turning.{Rule, noting}
 use Rattle.snap_steps.specs.Steps.Told.{Sat}
+use Rattle.snap_steps.specs.Rule.Bases.{KnowsBase}
 use Rattle.snap_steps.specs.Rule.Worn.{KnowsWorn}
 use Rattle.snap_steps.specs.Rule.Lasting.{AreLasting}
 use Rattle.snap_steps.specs.Rule.Names.{ActsAsPass}
@@ -73,6 +74,7 @@ draws about slots id me found said room passing s k wide at small =
         ways = each_stays s.views id me.0 w at (IsOnWay (state_of k.m k.g)) k.ways (λ p. p);
         worn = each_stays s.views id me.0 w at (KnowsWorn (state_of k.m k.g)) k.worn (λ p. p);
         lasting = each_stays s.views id me.0 w at (λ u. AreLasting (state_of k.m k.g) u.lasting) k.lasting (λ p. p);
+        based = each_stays s.views id me.0 w at (KnowsBase (state_of k.m k.g)) k.based (λ p. p);
         cut = cut_stays s.views id me.0 w at k.m.epoch k.cut refl refl;
         acting = each_stays s.views id me.0 w at ActsAsPass k.acting (λ p. p);
         named = named_stays s.views id me.0 w at about.passes k.named refl refl refl;

@@ -26,6 +26,7 @@ use Rattle.snap_steps.proofs.Prefixes.{begins_itself}
 use Rattle.snap_steps.proofs.Classes.Seeing.{seeing}
 use Rattle.snap_steps.proofs.Parts.Epochs.{epoch_with}
 use Rattle.snap_steps.proofs.Tables.{all_are}
+use Rattle.snap_steps.proofs.Parts.Bases.{left_cut}
 
 pub loads_next : (about : About) (slots id : ℕ) (me : Sat) → me.0.role ≡ Passing → Allows (Rule about) slots id me 0 (λ n. n) (next_loaded (step slots 0 0 0 none) me)
 loads_next about slots id me passing s k wide at small = let is = next_is k.memory in let room = k.memory.room in let a = (k.about_known id me.0 at (ap is_live passing)).0 in (
@@ -57,7 +58,7 @@ loads_left about slots id me s k wide at small =
       turning about s.words s.views k id v at (set s.words 2 r) k.m (v.notes ++ Left r ∷ []) v.handed v.epochs (after_left v.stage r) v.uses v.present (loaded k.memory 2) refl refl (header_more k.m.next k.m.epoch v (Left r) (k.notes id v at) tt) (omega (arith, same.3)) (omega (arith, same.4)) refl (λ x. omega (arith, k.locked.writing id v at x, same.0)) ((k.present id v at).0, λ z. (k.present id v at).1 (omega (arith, same.0, z)))
           (gated_moves s.views id v w at k.m.gate k.m.left k.m.gate k.m.left g (omega (arith, same.0, same.1)) (omega (arith, same.1, one)) (λ some. omega (arith, none_writes some, same.0))
           (each_stays s.views id v w at (λ u. IsAt k.m.gate u.stage) g.at (λ p. after_left_at k.m.gate v.stage r p)))
-          (used_moves s.views id v w at k.m.gate k.m.epoch k.m.gate k.m.epoch k.used refl refl refl (omega (arith, same.2)) (k.used.few id v at).0) (omega arith) (λ z. omega (arith, same.0)) (λ z. ap (λ st. after_left st r) (k.acting id v at z).0),
+          (used_moves s.views id v w at k.m.gate k.m.epoch k.m.gate k.m.epoch k.used refl refl refl (omega (arith, same.2)) (k.used.few id v at).0) (omega arith) (λ z. omega (arith, same.0)) (λ z. ap (λ st. after_left st r) (k.acting id v at z).0) (left_cut v.stage r),
       (refl, refl),
     )
 

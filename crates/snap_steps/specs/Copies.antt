@@ -1,0 +1,33 @@
+-- What a clone's seat answers of a row.
+use Rattle.std.specs.Prelude.{◌≡◌, ◌||◌, ℕ}
+use Rattle.snap_rule.specs.Tree.{Tree, Node, root}
+use Rattle.snap_rule.specs.Tree.Tree.{node}
+use Rattle.snap_stamp.specs.declared.layout.Field.TheVariants.{Stamp}
+use Rattle.snap_steps.specs.Steps.Fields.{is_last}
+use Rattle.snap_steps.specs.Clones.{IsWithin, Cloned}
+use Rattle.snap_steps.specs.Seen.{Laid, Known}
+use Rattle.snap_steps.specs.declared.clones.RowCopy.{RowCopy}
+
+-- the seat is of a clone of that table
+abbrev pub IsCloneAt : Cloned → Laid → Type 0
+IsCloneAt seat rows = (seat.table ≡ rows.table) × (seat.rows ≡ rows.rows)
+
+-- the clone that the pass has cut
+abbrev pub clone_of : Known → ℕ → Cloned
+clone_of k next = record { table = k.table; rows = k.view.rows; base = k.view.base.history; parts = k.view.base.parts; next = next; worn = k.view.worn }
+
+-- the seat, once it has loaded this stamp
+abbrev pub with_stamp : Cloned → ℕ → Cloned
+with_stamp c stamp = record c { worn = c.worn || is_last Stamp stamp }
+
+-- the copy has what the node has, and the rows of its two subtrees
+pub record IsCopyOf (n : Node) (a b : Tree) (copy : RowCopy) : Type 0 where
+  pub key : copy.key ≡ n.key
+  pub value : copy.value ≡ n.value
+  pub height : copy.height ≡ n.height
+  pub left : copy.left ≡ root a
+  pub right : copy.right ≡ root b
+
+-- the copy is of the tree's node of this row
+abbrev pub CopiesRow : Tree → ℕ → RowCopy → Type 0
+CopiesRow t row copy = (n : Node) (a b : Tree) → IsWithin (node n a b) t → n.row ≡ row → IsCopyOf n a b copy

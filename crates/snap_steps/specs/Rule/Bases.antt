@@ -1,0 +1,24 @@
+-- The part of the rule on clones: what a clone's seat reads is as it was at the cut.
+use Rattle.std.specs.Prelude.{◌≡◌}
+use Rattle.snap_model.specs.History.{Begins}
+use Rattle.snap_rule.specs.State.{State as Table, IsImage}
+use Rattle.snap_rule.specs.Tree.{root}
+use Rattle.snap_stamp.specs.declared.side.Side.TheVariants.{Right}
+use Rattle.snap_steps.specs.Clones.{tree_of, IsCloneOf}
+use Rattle.snap_steps.specs.Stages.{has_cut, is_quiet}
+use Rattle.snap_steps.specs.declared.view.Base.{Base}
+use Rattle.snap_steps.specs.declared.view.Stage.{Stage}
+use Rattle.snap_steps.specs.declared.view.View.{View}
+
+-- the tree is the image of its root, its rows are shared, and it tells the map after a beginning of the history
+pub record IsBase (s : Table) (base : Base) : Type 0 where
+  pub begins : Begins base.history s.history
+  pub image : IsImage s (root (tree_of base.parts)) (tree_of base.parts)
+  pub clone : IsCloneOf base.history (tree_of base.parts)
+
+-- once a closing pass has cut, no write is in progress, and the table's root is still the clone's
+abbrev pub StandsStill : Table → Stage → Base → Type 0
+StandsStill s stage base = has_cut stage ≡ 1 → (is_quiet stage ≡ 1) × (s.link 0 Right ≡ root (tree_of base.parts))
+
+abbrev pub KnowsBase : Table → View → Type 0
+KnowsBase s v = IsBase s v.base × StandsStill s v.stage v.base

@@ -1,0 +1,38 @@
+-- A clone's seat: how it comes to be, and its loads.
+use Rattle.std.specs.Prelude.{◌≡◌, ◌≤◌, ℕ, ◌||◌, []}
+use Rattle.atomic_table.specs.Table.{Step}
+use Rattle.snap_rule.specs.Tree.{root}
+use Rattle.snap_stamp.specs.Layout.{word_at}
+use Rattle.snap_stamp.specs.declared.layout.Field.{Field}
+use Rattle.snap_stamp.specs.declared.layout.Field.TheVariants.{Stamp}
+use Rattle.snap_steps.specs.Clones.{image_of, TellsWord}
+use Rattle.snap_steps.specs.Roles.{silent}
+use Rattle.snap_steps.specs.Steps.Fields.{is_last}
+use Rattle.snap_steps.specs.Steps.Told.{Sat, Has}
+use Rattle.snap_steps.specs.declared.view.View.{View}
+
+-- the seat of the clone that a pass has cut, or that another seat reads
+abbrev pub seat_of : View → View
+seat_of v = silent v.rows v.passes v.base.history v.handed v.epochs v.worn v.base
+
+-- what is true of the seat of a clone between two calls, whose root is this row
+pub record IsSeatOfClone (me : Sat) (top : ℕ) : Type 0 where
+  pub free : me.1 ≡ []
+  pub viewing : me.0 ≡ seat_of me.0
+  pub top_is : top ≡ root (image_of me.0)
+  pub low : top ≤ me.0.rows
+
+-- the root of the clone that was cut
+abbrev pub root_loaded : Step (Unit {0}) → Sat → ℕ → Sat → Type 0
+root_loaded st m r n = Has m n m.0 × (r ≡ root (image_of m.0)) × (r ≤ m.0.rows)
+
+-- a word of a row of the clone
+abbrev pub copied : Step (Unit {0}) → Sat → ℕ → Sat → Type 0
+copied st m r n = (row : ℕ) (field : Field) → st.word ≡ word_at row field → Has m n m.0 × TellsWord m.0.rows (image_of m.0) row field r
+
+-- a stamp, which is noted where it is at its greatest count
+abbrev pub stamp_noted : View → ℕ → View
+stamp_noted v r = record v { worn = v.worn || is_last Stamp r }
+
+abbrev pub stamp_loaded : Step (Unit {0}) → Sat → ℕ → Sat → Type 0
+stamp_loaded st m r n = Has m n (stamp_noted m.0 r)

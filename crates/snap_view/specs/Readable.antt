@@ -1,0 +1,10 @@
+-- A clone that can be read.
+use Rattle.snap_steps.specs.Clones.{ArePlaced, Cloned, image, IsCloneOf}
+use Rattle.snap_steps.specs.Copies.{IsCloneAt}
+use Rattle.snap_steps.specs.Seen.{Laid}
+
+-- the seat is of that table, and its tree tells the map after its base
+pub record IsReadable (rows : Laid) (seat : Cloned) : Type 0 where
+  pub at : IsCloneAt seat rows
+  pub clone : IsCloneOf seat.base (image seat)
+  pub placed : ArePlaced seat.rows (image seat)

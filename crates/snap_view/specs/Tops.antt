@@ -1,0 +1,31 @@
+-- Trees within a clone's, by the copies of their top rows.
+use Rattle.std.specs.Prelude.{◌≡◌, ℕ, Option, Some, None}
+use Rattle.snap_rule.specs.Tree.{Tree, Node, root}
+use Rattle.snap_rule.specs.Tree.Tree.{empty, node}
+use Rattle.snap_steps.specs.Clones.{IsWithin}
+use Rattle.snap_steps.specs.Copies.{IsCopyOf}
+use Rattle.snap_steps.specs.declared.clones.RowCopy.{RowCopy}
+
+-- the copy is of the top of the tree
+pub record HasTop (t : Tree) (copy : RowCopy) : Type 0 where
+  pub top : Node
+  pub left : Tree
+  pub right : Tree
+  pub is : t ≡ node top left right
+  pub copied : IsCopyOf top left right copy
+
+-- the copy is of the top of the tree, and there is none of an empty one
+abbrev pub IsTopOf : Tree → Option RowCopy → Type 0
+IsTopOf t None = t ≡ empty
+IsTopOf t (Some copy) = HasTop t copy
+
+-- a tree within t stands at this row, or an empty one where it is 0
+pub record HasTree (t : Tree) (row : ℕ) : Type 0 where
+  pub tree : Tree
+  pub within : IsWithin tree t
+  pub at : root tree ≡ row
+
+-- how many rows were read for it
+abbrev pub rows_read : Option RowCopy → ℕ
+rows_read None = 0
+rows_read (Some copy) = 1
