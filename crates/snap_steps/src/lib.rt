@@ -38,7 +38,7 @@ pub use locks::{free_lock, try_lock};
 pub use pass::{Note, Pass, Receipt};
 pub use rows::Rows;
 pub use seats::{admit, finish, learn, note};
-pub use view::{Admitted, Fact, Role, Stage, View, WordNote, Base, Part};
+pub use view::{Admitted, Base, Fact, Part, Role, Stage, View, WordNote};
 pub use way::{load_last_word, load_next_word, set_out};
 pub use writes::{confirm_absent, count_done, link_leaf, store_value};
 
