@@ -1,6 +1,6 @@
 -- A write between entering the gate and leaving it.
-use Rattle.std.proofs.Common.{◌≡◌, inl, inr, ℕ, ◌+◌, List, [], ◌∷◌, ◌++◌, Option, true, false, Bool, refl, sym, ap, ◌∙◌, subst, arith}
-use Rattle.snap_epoch.specs.Waits.{AreOfGate, IsOfGate, waited, HasEntered}
+use Rattle.std.proofs.Common.{◌≡◌, inl, inr, ℕ, List, [], ◌∷◌, ◌++◌, Option, refl, sym, ap, ◌∙◌, subst, arith}
+use Rattle.snap_epoch.specs.Waits.{AreOfGate, HasEntered}
 use Rattle.snap_model.specs.History.{call_key, Begins, IsLegal, calls_of}
 use Rattle.snap_model.specs.declared.call.Entry.{Entry}
 use Rattle.snap_steps.specs.Counting.{times}
@@ -12,7 +12,7 @@ use Rattle.snap_search.proofs.Walking.{extends_on}
 use Rattle.snap_search.proofs.Working.{notes_on}
 use Rattle.snap_steps.specs.Histories.{Extends}
 use Rattle.snap_steps.specs.Seen.{Known, Becomes}
-use Rattle.snap_steps.specs.Steps.Gate.{entered, idled}
+use Rattle.snap_steps.specs.Steps.Gate.{idled}
 use Rattle.snap_steps.specs.Steps.Header.{all_handed, all_epochs}
 use Rattle.snap_steps.specs.declared.view.WordNote.{WordNote}
 use Rattle.snap_steps.specs.declared.view.WordNote.TheVariants.{Next, Gate, Done, Epoch, Left, Birth}

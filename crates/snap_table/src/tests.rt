@@ -35,6 +35,33 @@ fn rows_run_out(rt: HostRuntime) -> Result<(), Fail> {
     Ok(())
 }
 
+#[test]
+fn replies_are_the_values_before(rt: HostRuntime) -> Result<(), Fail> {
+    let (table, mut passes) = SnapTable::open(rt.alloc(), 2, 1)?;
+    let mut p = passes.pop().ok_or("no pass")?;
+    assert_eq!(rt; table.put(&rt, &mut p, 5, 50), Ok(None));
+    assert_eq!(rt; table.put(&rt, &mut p, 5, 51), Ok(Some(50)));
+    assert_eq!(rt; table.remove(&rt, &mut p, 5), Ok(Some(51)));
+    assert_eq!(rt; table.remove(&rt, &mut p, 5), Ok(None));
+    let front = table.close(p);
+    assert_eq!(rt; front.writes, 4);
+    assert_eq!(rt; front.pairs, 0);
+    Ok(())
+}
+
+#[test]
+fn a_removed_key_keeps_its_row(rt: HostRuntime) -> Result<(), Fail> {
+    let (table, mut passes) = SnapTable::open(rt.alloc(), 2, 1)?;
+    let mut p = passes.pop().ok_or("no pass")?;
+    assert_eq!(rt; table.put(&rt, &mut p, 5, 50), Ok(None));
+    assert_eq!(rt; table.remove(&rt, &mut p, 5), Ok(Some(50)));
+    assert_eq!(rt; table.put(&rt, &mut p, 5, 52), Ok(None));
+    let front = table.close(p);
+    assert_eq!(rt; front.drawn, 1);
+    assert_eq!(rt; front.pairs, 1);
+    Ok(())
+}
+
 // Puts of 100 values at keys that the threads share, and how many of them found none.
 fn put_all<R: Wait>(table: &SnapTable, rt: &R, mut pass: Pass, who: u32) -> (Pass, u64)
     requires { IsReadyTo table.now who 0 pass }
