@@ -23,5 +23,5 @@ module _ (old a b : Known) (seen : List Entry) (t : Tree) (next : ℕ) (made : B
   pub freezes : (seat : Cloned) (new : Known) → Extends old.view seen → IsCloneOf seen t → ArePlaced old.view.rows t → seat ≡ clone_of b next → new ≡ b → Freezes old new seat
   freezes seat new more clone placed is same =
       let k : Known = cut_noted old seen t next in
-      let whole : Freezes old k (clone_of k next) = record { extends = more; clone = subst (IsCloneOf seen) (sym (tree_of-parts t)) clone; placed = subst (ArePlaced old.view.rows) (sym (tree_of-parts t)) placed; table = refl; rows = refl; is = refl } in
+      let whole : Freezes old k (clone_of k next) = record { extends = more; clone = subst (IsCloneOf seen) (sym (tree_of-parts t)) clone; placed = subst (ArePlaced old.view.rows) (sym (tree_of-parts t)) placed; table = refl; rows = refl; worn = refl; is = refl } in
       subst (λ (z : Known). Freezes old z seat) (sym (same ∙ is_noted)) (subst (Freezes old k) (sym (is ∙ ap (λ (z : Known). clone_of z next) is_noted)) whole)

@@ -19,4 +19,5 @@ pub record Freezes (old new : Known) (seat : Cloned) : Type 0 where
   pub placed : ArePlaced seat.rows (image seat)
   pub table : seat.table ≡ old.table
   pub rows : seat.rows ≡ old.view.rows
+  pub worn : seat.worn ≡ old.view.worn
   pub is : Becomes old new (frozen old.view seat)

@@ -1,6 +1,6 @@
 -- A write between entering the gate and leaving it.
-use Rattle.std.proofs.Common.{◌≡◌, inl, inr, ℕ, ◌+◌, List, [], ◌∷◌, ◌++◌, Option, true, false, Bool, refl, sym, ap, ◌∙◌, subst}
-use Rattle.snap_epoch.specs.Waits.{AreOfGate, IsOfGate, waited, HasEntered}
+use Rattle.std.proofs.Common.{◌≡◌, inl, inr, ℕ, ◌+◌, List, [], ◌∷◌, ◌++◌, Option, refl, sym, ap, ◌∙◌, subst}
+use Rattle.snap_epoch.specs.Waits.{AreOfGate, HasEntered}
 use Rattle.snap_model.specs.History.{told, Begins, IsLegal, calls_of}
 use Rattle.snap_model.specs.declared.call.Entry.{Entry}
 use Rattle.snap_steps.specs.Counting.{times}
@@ -12,7 +12,7 @@ use Rattle.snap_search.proofs.Walking.{extends_on}
 use Rattle.snap_search.proofs.Working.{notes_on}
 use Rattle.snap_steps.specs.Histories.{Extends}
 use Rattle.snap_steps.specs.Seen.{Known, Becomes}
-use Rattle.snap_steps.specs.Steps.Gate.{entered, idled}
+use Rattle.snap_steps.specs.Steps.Gate.{idled}
 use Rattle.snap_steps.specs.Steps.Header.{all_handed, all_epochs}
 use Rattle.snap_steps.specs.declared.view.HeaderNote.{HeaderNote}
 use Rattle.snap_steps.specs.declared.view.HeaderNote.TheVariants.{Next, Gate, Done, Epoch, Left}
@@ -25,7 +25,7 @@ use Rattle.snap_update.specs.Held.{IsReady}
 use Rattle.snap_update.proofs.Entering.{among_right}
 
 -- notes of the gate leave the greatest notes of `next` and of `epoch`
-gate_handed : (h : ℕ) (l : List HeaderNote) → AreOfGate l → all_handed h l ≡ h
+pub gate_handed : (h : ℕ) (l : List HeaderNote) → AreOfGate l → all_handed h l ≡ h
 gate_handed h [] of = refl
 gate_handed h (Next n ∷ ns) of = absurd of.0
 gate_handed h (Gate g ∷ ns) of = gate_handed h ns of.1
@@ -33,7 +33,7 @@ gate_handed h (Left a ∷ ns) of = gate_handed h ns of.1
 gate_handed h (Done d ∷ ns) of = absurd of.0
 gate_handed h (Epoch e ∷ ns) of = absurd of.0
 
-gate_epochs : (h : ℕ) (l : List HeaderNote) → AreOfGate l → all_epochs h l ≡ h
+pub gate_epochs : (h : ℕ) (l : List HeaderNote) → AreOfGate l → all_epochs h l ≡ h
 gate_epochs h [] of = refl
 gate_epochs h (Next n ∷ ns) of = absurd of.0
 gate_epochs h (Gate g ∷ ns) of = gate_epochs h ns of.1
@@ -48,7 +48,7 @@ enter_noted old mid h = record {
   epochs = ap (λ (k : Known). k.view.epochs) h.is ∙ sym (gate_epochs old.view.epochs h.more h.of_gate);
 }
 
-leave_noted : (mid new : Known) (old : View) (l : List HeaderNote) → Becomes mid new (idled mid.view) → NotesMore old mid.view l → NotesMore old new.view l
+pub leave_noted : (mid new : Known) (old : View) (l : List HeaderNote) → Becomes mid new (idled mid.view) → NotesMore old mid.view l → NotesMore old new.view l
 leave_noted mid new old l e n = record { notes = ap (λ (k : Known). k.view.notes) e ∙ n.notes; handed = ap (λ (k : Known). k.view.handed) e ∙ n.handed; epochs = ap (λ (k : Known). k.view.epochs) e ∙ n.epochs }
 
 -- a pass that has entered is ready to write
