@@ -24,7 +24,7 @@ use Rattle.snap_update.specs.Held.{IsReady}
 use Rattle.snap_update.proofs.Entering.{in_right}
 
 -- notes of the gate leave the greatest notes of `next` and of `epoch`
-gate_handed : (h : ℕ) (l : List WordNote) → AreOfGate l → all_handed h l ≡ h
+pub gate_handed : (h : ℕ) (l : List WordNote) → AreOfGate l → all_handed h l ≡ h
 gate_handed h [] of = refl
 gate_handed h (Next n ∷ ns) of = absurd of.0
 gate_handed h (Gate g ∷ ns) of = gate_handed h ns of.1
@@ -33,7 +33,7 @@ gate_handed h (Done d ∷ ns) of = absurd of.0
 gate_handed h (Epoch e ∷ ns) of = absurd of.0
 gate_handed h (Birth k b ∷ ns) of = absurd of.0
 
-gate_epochs : (h : ℕ) (l : List WordNote) → AreOfGate l → all_epochs h l ≡ h
+pub gate_epochs : (h : ℕ) (l : List WordNote) → AreOfGate l → all_epochs h l ≡ h
 gate_epochs h [] of = refl
 gate_epochs h (Next n ∷ ns) of = absurd of.0
 gate_epochs h (Gate g ∷ ns) of = gate_epochs h ns of.1
@@ -49,7 +49,7 @@ enter_noted old mid h = record {
   epochs = ap (λ (k : Known). k.view.epochs) h.is ∙ sym (gate_epochs old.view.epochs h.more h.of_gate);
 }
 
-leave_noted : (mid new : Known) (old : View) (l : List WordNote) → Becomes mid new (idled mid.view) → NotesMore old mid.view l → NotesMore old new.view l
+pub leave_noted : (mid new : Known) (old : View) (l : List WordNote) → Becomes mid new (idled mid.view) → NotesMore old mid.view l → NotesMore old new.view l
 leave_noted mid new old l e n = record { notes = ap (λ (k : Known). k.view.notes) e ∙ n.notes; handed = ap (λ (k : Known). k.view.handed) e ∙ n.handed; epochs = ap (λ (k : Known). k.view.epochs) e ∙ n.epochs }
 
 -- a pass that has entered is ready to write

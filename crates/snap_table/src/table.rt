@@ -3,6 +3,9 @@ ghost use Rattle.std.specs.Prelude.{◌≡◌, ◌+◌, ◌<◌, ◌≤◌, ◌^
 ghost use Rattle.snap_model.specs.History.{Begins};
 ghost use Rattle.snap_model.specs.declared.call.Call.TheVariants.{Put, Remove};
 ghost use Rattle.snap_search.specs.Answers.{Reads};
+ghost use Rattle.snap_rule.specs.Tree.{root};
+ghost use Rattle.snap_steps.specs.Clones.{image};
+ghost use Rattle.snap_steps.specs.Copies.{clone_of};
 ghost use Rattle.snap_steps.specs.Ending.{Closes, SpeaksForAll};
 ghost use Rattle.snap_steps.specs.Histories.{Extends};
 ghost use Rattle.snap_steps.specs.Seen.{IsOf, IsOpened, Becomes};
@@ -11,13 +14,17 @@ ghost use Rattle.snap_steps.specs.Steps.Seats.{note_of, heard, with_admitted};
 ghost use Rattle.snap_steps.specs.declared.view.WordNote.TheVariants.{Next};
 ghost use Rattle.snap_steps.specs.declared.view.Stage.TheVariants.{Idle};
 ghost use Rattle.snap_table.specs.Calls.{IsIdle, Replies, Refuses};
+ghost use Rattle.snap_table.specs.Clones.{HasCut, Cuts};
+ghost use Rattle.snap_table.specs.Holding.{held_clone, HoldsClone, IsHeld};
 ghost use Rattle.snap_update.specs.Answers.{FitsWord};
 
-use snap_epoch::{enter, leave};
+use crate::held::Held;
+use snap_epoch::{close, enter, freeze, leave, reopen};
 use snap_model::{Call, OutOfMemory};
 use snap_stamp::Key;
-use snap_steps::{Front, Full, Note, Pass, Receipt, Rows, close_rows, load_next};
+use snap_steps::{Front, Full, Note, Pass, Receipt, Rows, ViewSeat, close_rows, load_next};
 use snap_update::write;
+use snap_view::TableView;
 use std::alloc::Global;
 use std::marker::Model;
 use std::sync::Wait;
@@ -109,6 +116,51 @@ impl SnapTable {
         ensures { Reads pass.old pass.new key result }
     {
         snap_search::get(&self.rows, rt, pass, key)
+    }
+
+    /// A clone of the table: the map as it is once no write is in progress, for good. It waits for the writes in
+    /// progress, draws no row and copies none. The pass has then seen the clone's history.
+    pub fn clone_view<'t, R: Wait>(&'t self, rt: &R, pass: &mut Pass) -> TableView<'t>
+        requires table { IsOf pass.old self.now }
+        requires idle { IsIdle pass.old.view }
+        requires uses { pass.old.view.uses < 2 ^ 48 }
+        ensures { Cuts pass.old pass.new result }
+    {
+        let seat = self.cut(rt, pass);
+        reopen(&self.rows, pass);
+        TableView::of(&self.rows, seat)
+    }
+
+    /// A clone, as `clone_view` makes it, while the gate stays closed: puts and removals of others wait until it is
+    /// released, so that the clone is the whole table meanwhile.
+    pub fn hold<'t, 'p, R: Wait>(&'t self, rt: &R, pass: &'p mut Pass) -> Held<'t, 'p>
+        requires table { IsOf pass.old self.now }
+        requires idle { IsIdle pass.old.view }
+        requires uses { pass.old.view.uses < 2 ^ 48 }
+        ensures same_pass { result.pass.ghost_name ≡ pass.entry.ghost_name }
+        ensures cut { HasCut pass.old result.pass.now (held_clone result) }
+        ensures held { IsHeld result }
+    {
+        let seat = self.cut(rt, pass);
+        Held {
+            pass,
+            rows: &self.rows,
+            top: seat.root(),
+            next: seat.next(),
+        }
+    }
+
+    // Closes the gate, waits for the writes in progress, and cuts.
+    fn cut<R: Wait>(&self, rt: &R, pass: &mut Pass) -> ViewSeat
+        requires table { IsOf pass.old self.now }
+        requires idle { IsIdle pass.old.view }
+        requires uses { pass.old.view.uses < 2 ^ 48 }
+        ensures cut { HasCut pass.old pass.new result }
+        ensures seat { result ≡ clone_of pass.new result.next }
+        ensures held { HoldsClone pass.new self.now (root (image result)) result.next }
+    {
+        close(&self.rows, rt, pass);
+        freeze(&self.rows, pass)
     }
 
     /// A note of what the pass has seen. The pass is unchanged.
