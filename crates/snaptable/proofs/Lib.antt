@@ -3,4 +3,7 @@ pub mod Fronts
 pub mod Endings
 pub mod Languages
 pub mod Written
+pub mod Generated
+pub mod Outputs
+pub mod Jobs
 mod Examples

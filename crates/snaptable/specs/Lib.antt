@@ -1,4 +1,8 @@
+pub mod CommandLine
+pub mod Givens
 pub mod Words
+pub mod Checks
+pub mod Generator
 pub mod Reading
 pub mod Stops
 pub mod Replies

@@ -5,6 +5,8 @@ use Rattle.snap_text.specs.Scripts.{script_of}
 use Rattle.snap_text.specs.declared.script.Line.{Line}
 use Rattle.snap_text.specs.declared.fault.ScriptFault.{ScriptFault}
 use Rattle.snaptable.specs.declared.words.Job.{Job}
+use Rattle.snaptable.specs.declared.words.Work.{Work}
+use Rattle.snaptable.specs.declared.words.Work.TheVariants.{Made, Scripts}
 use Rattle.snaptable.specs.declared.words.WordsFault.{WordsFault}
 use Rattle.snaptable.specs.Words.{job_of, script_name}
 use Rattle.snaptable.specs.Replies.{needs_more_somewhere, reply_file, reply_name}
@@ -30,9 +32,14 @@ abbrev pub ending_of_file : Option (List ℕ) → Ending
 ending_of_file None = ScriptMissing
 ending_of_file (Some bytes) = ending_of_script (script_of bytes)
 
+-- scripts that are to be made are refused too, as yet
+abbrev pub ending_of_work : Work → Option (List ℕ) → Ending
+ending_of_work (Scripts names) file = ending_of_file file
+ending_of_work (Made commands seed workers) file = ScriptRefused
+
 abbrev pub ending_of_job : Result Job WordsFault → Option (List ℕ) → Ending
 ending_of_job (Err fault) file = WordsRefused
-ending_of_job (Ok job) file = ending_of_file file
+ending_of_job (Ok job) file = ending_of_work job.work file
 
 abbrev pub ending_of : List (List ℕ) → Files → Ending
 ending_of words files = ending_of_job (job_of words) (files (script_name words))
@@ -48,7 +55,7 @@ LacksScript words (Some files) = ending_of words files ≡ ScriptMissing
 
 -- the status of an ending, unless memory is wanting or a read or a write faulted
 abbrev pub HasStatus : Ending → ℕ → Type 0 → Type 0 → Type 0
-HasStatus WordsRefused status read_fault write_fault = status ≡ 2
+HasStatus WordsRefused status read_fault write_fault = (status ≡ 2) ⊎ (status ≡ 6)
 HasStatus ScriptMissing status read_fault write_fault = (status ≡ 4) ⊎ (status ≡ 6)
 HasStatus ScriptRefused status read_fault write_fault = (status ≡ 3) ⊎ (status ≡ 6) ⊎ (status ≡ 4) × read_fault
 HasStatus (Complete lines) status read_fault write_fault =

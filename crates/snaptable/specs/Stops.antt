@@ -18,9 +18,8 @@ status_of stop.Memory = 6
 
 -- the stop that a fault of the words, of reading or of the script leads to
 abbrev pub stop_of_words : WordsFault → Stop
-stop_of_words words.NotYet = stop.Words
-stop_of_words words.Name = stop.Words
 stop_of_words words.Memory = stop.Memory
+stop_of_words _ = stop.Words
 
 abbrev pub stop_of_reading : ReadFault → Stop
 stop_of_reading reading.TooLong = stop.Script

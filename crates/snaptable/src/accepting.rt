@@ -1,8 +1,8 @@
-ghost use Rattle.std.specs.Prelude.{◌≡◌, ◌≢◌, ◌≤◌, ◌⊎◌, ◌↔◌, [], map, IfOk, IsErr};
+ghost use Rattle.std.specs.Prelude.{◌≡◌, ◌≢◌, ◌≤◌, ◌⊎◌, [], map, IfOk, IsErr, MatchOption};
 ghost use Rattle.std.specs.String.{string_bytes};
 ghost use Rattle.snap_io.specs.Causes.{Rose};
 ghost use Rattle.snap_service.specs.Runs.{CanRunAll};
-ghost use Rattle.snaptable.specs.Words.{IsOneScript, job_of, one_script, script_name};
+ghost use Rattle.snaptable.specs.Words.{IsOneMade, IsOneScript, job_of, one_script, script_name};
 ghost use Rattle.snaptable.specs.Replies.{commands_of, first_state, needs_more, needs_more_somewhere, reply_name};
 ghost use Rattle.snaptable.specs.Outcomes.{EndsIn, LacksScript};
 ghost use Rattle.snaptable.specs.Outcomes.Ending.{Complete, ScriptRefused};
@@ -34,7 +34,8 @@ pub fn accept<S: Shelf>(alloc: Global, words: &[String], shelf: &mut S) -> Resul
     ensures replies { IfOk result (λ accepted. accepted.replies ≡ reply_name (script_name (map string_bytes words.now))) }
     ensures rows { IfOk result (λ accepted. accepted.rows ≡ DEFAULT_ROWS) }
 
-    ensures words { (result ≡ Err Stop.Words) ↔ IsErr (job_of (map string_bytes words.now)) }
+    ensures words { result ≡ Err Stop.Words → IsErr (job_of (map string_bytes words.now)) }
+    ensures words_refused { IsErr (job_of (map string_bytes words.now)) → (result ≡ Err Stop.Words) ⊎ (result ≡ Err Stop.Memory) }
     ensures refused { result ≡ Err Stop.Script → EndsIn (map string_bytes words.now) (S.files shelf.old) ScriptRefused }
     ensures unread { result ≡ Err Stop.Read → Rose (S.read_faults shelf.old) (S.read_faults shelf.new) ⊎ LacksScript (map string_bytes words.now) (S.files shelf.old) }
     ensures reads_only { result ≢ Err Stop.Write }
@@ -44,7 +45,9 @@ pub fn accept<S: Shelf>(alloc: Global, words: &[String], shelf: &mut S) -> Resul
     ensures writes { S.write_faults shelf.new ≡ S.write_faults shelf.old }
 {
     let job = read_words(alloc, words)?;
-    let name = script_of(&job);
+    let Some(name) = script_of(&job) else {
+        return Err(Stop::Script);
+    };
     let bytes = read_file(alloc, shelf, name.text(), MOST_SCRIPT_BYTES)?;
     let script = read_script(alloc, &bytes)?;
     if needs_more_somewhere(script.lines()) {
@@ -74,13 +77,15 @@ fn needs_more(command: &Command) -> bool
     }
 }
 
-// The script of a job that has one.
-fn script_of(job: &Job) -> &Name
-    requires { IsOneScript job.now }
-    ensures { job.now ≡ one_script result.now }
+// The script of a job that names one.
+fn script_of(job: &Job) -> Option<&Name>
+    requires { IsOneScript job.now ⊎ IsOneMade job.now }
+    ensures { MatchOption result (IsOneMade job.now) (λ name. job.now ≡ one_script name.now) }
 {
-    let Work::Scripts { names } = &job.work;
-    &names.list()[0]
+    match &job.work {
+        Work::Scripts { names } => names.list().first(),
+        Work::Made { .. } => None,
+    }
 }
 
 // The name of a script's reply file.

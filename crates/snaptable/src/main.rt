@@ -3,6 +3,9 @@
 
 mod accepting;
 mod carrying;
+mod checking;
+mod command_line;
+mod generating;
 mod outcome;
 mod reading;
 mod run;

@@ -50,8 +50,13 @@ impl From<WordsFault> for Stop {
 
     fn from(fault: WordsFault) -> Self {
         match fault {
-            WordsFault::NotYet | WordsFault::Name => Stop::Words,
             WordsFault::Memory => Stop::Memory,
+            WordsFault::Usage
+            | WordsFault::Number
+            | WordsFault::Name
+            | WordsFault::Choice
+            | WordsFault::Output
+            | WordsFault::NotYet => Stop::Words,
         }
     }
 }

@@ -1,4 +1,4 @@
-ghost use Rattle.std.specs.Prelude.{◌≡◌, ◌⊎◌, ◌↔◌, map, IfErr, IsErr, OnOk};
+ghost use Rattle.std.specs.Prelude.{◌≡◌, ◌⊎◌, map, IfErr, IsErr, OnOk};
 ghost use Rattle.std.specs.String.{string_bytes};
 ghost use Rattle.snap_io.specs.Causes.{Rose};
 ghost use Rattle.snap_io.specs.Shelves.{IfTold};
@@ -32,7 +32,8 @@ pub fn run<R: Threads + Wait + Sync, S: Shelf, K: Sink, T: Turn + Sync>(
         (Rose (S.read_faults shelf.old) (S.read_faults shelf.new))
         (Rose (S.write_faults shelf.old) (S.write_faults shelf.new) ⊎ Rose (K.faults sink.old) (K.faults sink.new))) }
     ensures statuses { IsStatus result.status }
-    ensures words { (result.status ≡ 2) ↔ IsErr (job_of (map string_bytes words.now)) }
+    ensures words { result.status ≡ 2 → IsErr (job_of (map string_bytes words.now)) }
+    ensures words_refused { IsErr (job_of (map string_bytes words.now)) → (result.status ≡ 2) ⊎ (result.status ≡ 6) }
     ensures refused { result.status ≡ 3 → EndsIn (map string_bytes words.now) (S.files shelf.old) ScriptRefused }
     ensures unread { result.status ≡ 4 → Rose (S.read_faults shelf.old) (S.read_faults shelf.new) ⊎ LacksScript (map string_bytes words.now) (S.files shelf.old) }
     ensures unwritten { result.status ≡ 5 → Rose (S.write_faults shelf.old) (S.write_faults shelf.new) ⊎ Rose (K.faults sink.old) (K.faults sink.new) }
@@ -62,7 +63,8 @@ fn complete<R: Wait, S: Shelf, K: Sink, T: Turn>(
 ) -> Result<(), Stop>
     ensures done { OnOk result (ForScript (map string_bytes words.now) (S.files shelf.old) (λ script. IsDone (map string_bytes words.now) script (S.files shelf.old) (S.files shelf.new) (K.written sink.old) (K.written sink.new))) }
     ensures begun { result ≡ Err Stop.Write → ForScript (map string_bytes words.now) (S.files shelf.old) (λ script. IsBegun (map string_bytes words.now) script (S.files shelf.old) (S.files shelf.new) (K.written sink.old) (K.written sink.new)) }
-    ensures words { (result ≡ Err Stop.Words) ↔ IsErr (job_of (map string_bytes words.now)) }
+    ensures words { result ≡ Err Stop.Words → IsErr (job_of (map string_bytes words.now)) }
+    ensures words_refused { IsErr (job_of (map string_bytes words.now)) → (result ≡ Err Stop.Words) ⊎ (result ≡ Err Stop.Memory) }
     ensures refused { result ≡ Err Stop.Script → EndsIn (map string_bytes words.now) (S.files shelf.old) ScriptRefused }
     ensures unread { result ≡ Err Stop.Read → Rose (S.read_faults shelf.old) (S.read_faults shelf.new) ⊎ LacksScript (map string_bytes words.now) (S.files shelf.old) }
     ensures unwritten { result ≡ Err Stop.Write → Rose (S.write_faults shelf.old) (S.write_faults shelf.new) ⊎ Rose (K.faults sink.old) (K.faults sink.new) }

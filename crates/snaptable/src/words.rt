@@ -1,10 +1,13 @@
-ghost use Rattle.std.specs.Prelude.{◌≡◌, ◌⊎◌, [], ◌∷◌, ◌++◌, map, IfOk, IfErr, OnOk, OnErr, IsOk};
+ghost use Rattle.std.specs.Prelude.{◌≡◌, ◌⊎◌, [], ◌∷◌, ◌++◌, map, IfOk, IfErr, OnOk, OnErr};
 ghost use Rattle.std.specs.String.{string_bytes};
-ghost use Rattle.snaptable.specs.Words.{job_of, one_script, script_name};
+ghost use Rattle.snaptable.specs.Checks.{numbers_in};
+ghost use Rattle.snaptable.specs.Givens.{given_by};
+ghost use Rattle.snaptable.specs.Words.{IsReady, job_in, job_of};
 
+use crate::checking::{Numbers, check};
+use crate::command_line::{Given, parse};
 use snap_model::{Name, OutOfMemory};
-use snap_text::is_file;
-use std::alloc::Global;
+use std::alloc::{AllocError, Global};
 use std::marker::Model;
 use thiserror::Error;
 
@@ -14,12 +17,24 @@ pub const DEFAULT_ROWS: u32 = 65_536;
 /// Why the words are refused.
 #[derive(Clone, Copy, Debug, PartialEq, Eq, Error)]
 pub enum WordsFault {
-    /// There isn't exactly one word.
-    #[error("not yet")]
-    NotYet,
-    /// The word is no file name.
+    /// The command doesn't take the words: an option is unknown, has no value or is given twice, or help is asked for.
+    #[error("usage")]
+    Usage,
+    /// The value of an option is no number in its range.
+    #[error("number")]
+    Number,
+    /// A script or the final file has a name that is no file name.
     #[error("name")]
     Name,
+    /// There are neither scripts nor commands to be made, or both, or too many scripts.
+    #[error("choice")]
+    Choice,
+    /// Two of the files that are to be written have one name.
+    #[error("output")]
+    Output,
+    /// Nothing of that, but more than one script or worker, or an option that no run has yet.
+    #[error("not yet")]
+    NotYet,
     /// Want of memory.
     #[error("out of memory")]
     Memory,
@@ -31,6 +46,16 @@ impl From<OutOfMemory> for WordsFault {
     ghost from_gives = { λ _ fault. fault ≡ faults.Memory };
 
     fn from(_: OutOfMemory) -> Self {
+        WordsFault::Memory
+    }
+}
+
+impl From<AllocError> for WordsFault {
+    ghost use Rattle.snaptable.specs.declared.words.WordsFault.TheVariants as faults;
+
+    ghost from_gives = { λ _ fault. fault ≡ faults.Memory };
+
+    fn from(_: AllocError) -> Self {
         WordsFault::Memory
     }
 }
@@ -80,7 +105,15 @@ impl NameList {
 #[derive(Debug, Drop)]
 pub enum Work {
     /// The scripts of these names.
-    Scripts { names: NameList },
+    Scripts {
+        names: NameList,
+    },
+    /// Scripts that are made: so many commands in all, from this seed, for so many workers.
+    Made {
+        commands: u32,
+        seed: u32,
+        workers: u32,
+    },
 }
 
 /// What the words ask for.
@@ -94,24 +127,55 @@ pub struct Job {
 }
 
 /// Reads the words of the command line, without the program's own name.
+///
+/// The command is read by `clap`, which takes memory; whatever else the words are refused for is found without memory.
 pub fn read_words(alloc: Global, words: &[String]) -> Result<Job, WordsFault>
     ensures ok { IfOk result (λ job. job_of (map string_bytes words.now) ≡ Ok job) }
     ensures refused { IfErr result (λ fault. (fault ≡ WordsFault.Memory) ⊎ (job_of (map string_bytes words.now) ≡ Err fault)) }
-    ensures one { IfOk result (λ job. job ≡ one_script (script_name (map string_bytes words.now))) }
-    // A fault is told without memory.
-    ensures memory { result ≡ Err WordsFault.Memory → IsOk (job_of (map string_bytes words.now)) }
+    // A job that is answered is one that a run can do.
+    ensures ready { IfOk result (IsReady (map string_bytes words.now)) }
 {
-    let [word] = words else {
-        return Err(WordsFault::NotYet);
+    let matches = parse(alloc, words)?;
+    let given = Given::of(&matches);
+    let numbers = check(&given)?;
+    Ok(job_for(alloc, &given, numbers)?)
+}
+
+// What the words ask for, where they have no fault.
+fn job_for(alloc: Global, given: &Given<'_, '_>, numbers: Numbers) -> Result<Job, OutOfMemory>
+    requires { numbers ≡ numbers_in (given_by given.now) }
+    ensures { IfOk result (λ job. job ≡ job_in (given_by given.now)) }
+{
+    let last = match given.last {
+        None => None,
+        Some(name) => Some(Name::new(alloc, name)?),
     };
-    if !is_file(word.as_bytes()) {
-        return Err(WordsFault::Name);
-    }
-    let mut names = NameList::new(alloc);
-    names.add(Name::new(alloc, word.as_str())?)?;
+    let work = match numbers.commands {
+        None => Work::Scripts {
+            names: names_of(alloc, given.scripts)?,
+        },
+        Some(commands) => Work::Made {
+            commands,
+            seed: numbers.seed,
+            workers: numbers.workers,
+        },
+    };
     Ok(Job {
-        rows: DEFAULT_ROWS,
-        last: None,
-        work: Work::Scripts { names },
+        rows: numbers.rows,
+        last,
+        work,
     })
 }
+
+fn names_of(alloc: Global, scripts: &[&str]) -> Result<NameList, OutOfMemory>
+    ensures { IfOk result (λ names. names ≡ map (λ script. script.now) scripts.now) }
+{
+    let mut names = NameList::new(alloc);
+    for script in scripts {
+        names.add(Name::new(alloc, script)?)?;
+    }
+    Ok(names)
+}
+
+#[cfg(test)]
+mod tests;

@@ -1,14 +1,14 @@
-use Rattle.std.proofs.Common.{◌≡◌, List, ℕ, Err, map, ap, sym, ◌∙◌, subst}
+use Rattle.std.proofs.Common.{◌≡◌, List, ℕ, Ok, Err, map, ap, sym, ◌∙◌, subst}
 use Rattle.std.specs.Prelude.{string_bytes}
 use Rattle.snap_text.specs.Scripts.{most_bytes}
 use Rattle.snaptable.specs.declared.reading.ReadFault.TheVariants as reading
 use Rattle.snaptable.specs.declared.outcome.Stop.TheVariants as stop
 use Rattle.snaptable.specs.Reading.{IsLonger}
 use Rattle.snaptable.specs.Stops.{stop_of_reading}
-use Rattle.snaptable.specs.Words.{one_script, script_name}
+use Rattle.snaptable.specs.Words.{job_of, one_script, script_name}
 use Rattle.snaptable.specs.Replies.{needs_more_somewhere}
 use Rattle.snaptable.proofs.Languages.{accepted_runs}
-use Rattle.snaptable.proofs.Endings.{long_stop, one_name, too_long}
+use Rattle.snaptable.proofs.Endings.{long_stop, script_named, too_long}
 use Rattle.snaptable.proofs.accepting.accept.Goals as goal
 
 -- a file that is too long is a refused script
@@ -20,9 +20,9 @@ returns-in_err-bytes-clause-refused g c is =
     let script : stop_of_reading fault ≡ stop.Script = sym (rw is at c.from_residual-in_err-bytes.ensures.1) in
     let long : fault ≡ reading.TooLong = long_stop fault script in
     let longer = c.in_err-bytes.ensures.too_long (ap Err long) in
-    let same : one_script c.script_of-name.result.now ≡ one_script (script_name ws) = sym c.script_of-name.ensures ∙ c.in_ok-job.ensures.one in
-    let name : c.text.result.now ≡ script_name ws = c.text.ensures ∙ one_name _ _ same in
-    too_long files ws c.in_ok-job.job c.in_ok-job.ensures.ok (subst (λ n. IsLonger files n most_bytes) name longer)
+    let named : c.in-Some.name.now ≡ script_name ws = script_named ws c.in_ok-job.job c.in-Some.name.now c.in-Some.ensures c.in_ok-job.ensures.ready in
+    let job : job_of ws ≡ Ok (one_script (script_name ws)) = c.in_ok-job.ensures.ok ∙ ap Ok (c.in-Some.ensures ∙ ap one_script named) in
+    too_long files ws (script_name ws) job (subst (λ n. IsLonger files n most_bytes) (c.text.ensures ∙ named) longer)
 
 -- a script that needs more than a run has is refused, and any other can be run
 pub returns-clause-commands : goal.returns-clause-commands
