@@ -10,5 +10,6 @@ pub mod Locks
 pub mod Writes
 pub mod Leaf
 pub mod Changes
+pub mod Copies
 pub mod Below
 pub mod Way

@@ -32,7 +32,7 @@ own_number Noting who = []
 own_number Spent who = []
 
 abbrev pub blank : ℕ → ℕ → Role → ℕ → View
-blank rows passes role who = record { rows = rows; passes = passes; who = who; role = role; stage = Idle; seen = []; mine = []; notes = []; handed = 0; epochs = 0; worn = false; drawn = []; cuts = []; uses = 0; admitted = []; holds = []; knows = []; refused = []; lasting = []; reached = []; own = []; wrote = []; reads = Resting; confirmed = []; doing = Nothing; present = []; steps = 0; joined = [] }
+blank rows passes role who = record { rows = rows; passes = passes; who = who; role = role; stage = Idle; seen = []; mine = []; notes = []; handed = 0; epochs = 0; worn = false; drawn = []; cuts = []; uses = 0; admitted = []; holds = []; knows = []; refused = []; lasting = []; reached = []; own = []; wrote = []; reads = Resting; confirmed = []; place = Resting; doing = Nothing; present = []; copies = []; steps = 0; joined = [] }
 
 abbrev pub opener : ℕ → ℕ → ℕ → View
 opener rows passes who = blank rows passes Opening who

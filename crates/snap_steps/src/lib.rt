@@ -8,6 +8,7 @@
 mod absences;
 mod births;
 mod changes;
+mod copies;
 mod draws;
 mod fields;
 mod front;
@@ -25,6 +26,7 @@ mod writes;
 pub use absences::confirm_absent_below;
 pub use births::{load_birth, note_birth};
 pub use changes::mark_shrinking;
+pub use copies::{link_copy, load_shared};
 pub use draws::{Full, draw, try_draw};
 pub use fields::{load_key, load_word, store_key, store_own};
 pub use front::{Front, close_rows};

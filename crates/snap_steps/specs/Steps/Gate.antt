@@ -13,7 +13,7 @@ use Rattle.snap_steps.specs.Steps.Told.{Sat, Tried, Has}
 use Rattle.snap_steps.specs.Histories.{Extends}
 
 abbrev pub entered : View → View
-entered v = record v { stage = Writing false false; uses = v.uses + 1 }
+entered v = record v { stage = Writing false false; uses = v.uses + 1; copies = [] }
 
 abbrev pub closed : View → ℕ → View
 closed v gate = record v { stage = Closing gate false false; uses = v.uses + 1 }
