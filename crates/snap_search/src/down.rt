@@ -61,7 +61,7 @@ pub fn child_of(rows: &Rows, pass: &mut Pass, key: Key, spot: &Spot) -> RowNo
     requires way { pass.old.view.reads ≡ On key (Standing spot.now.row spot.now.stamp spot.now.side) }
     ensures row { result ≤ rows.now.rows }
     ensures none { result ≡ 0 → Walks pass.old pass.new (On key (NoLink spot.now.row spot.now.stamp spot.now.side)) }
-    ensures child { result ≢ 0 → HasChild pass.old pass.new result (On key (Linked spot.now.row spot.now.stamp spot.now.side result)) }
+    ensures child { result ≢ 0 → HasChild pass.old pass.new result (On key (Standing spot.now.row spot.now.stamp spot.now.side)) (On key (Linked spot.now.row spot.now.stamp spot.now.side result)) }
 {
     let _key = key;
     let word = load_next_word(rows, pass, spot.row, field_of(spot.side));
@@ -106,6 +106,7 @@ pub fn pass_by(rows: &Rows, pass: &mut Pass, key: Key, child: RowNo, stamp: Stam
     requires way { pass.old.view.reads ≡ On key (Confirmed child stamp) }
     ensures point { MatchOption result (Walks pass.old pass.new (On key (Matched child))) (λ s. (s.row ≡ child) × Walks pass.old pass.new (On key (Standing s.row s.stamp s.side))) }
     ensures confirmed { pass.new.view.confirmed ≡ pass.old.view.confirmed }
+    ensures place { pass.new.view.place ≡ pass.old.view.place }
 {
     let found = load_next_word(rows, pass, child, Field::Key);
     if found == key {

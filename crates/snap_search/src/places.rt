@@ -5,6 +5,7 @@ ghost use Rattle.snap_rule.specs.declared.reader.Point.TheVariants.{Standing};
 ghost use Rattle.snap_search.specs.Places.{Finds, Comes, Goes};
 ghost use Rattle.snap_search.specs.Work.{IsReached, IsPresent};
 ghost use Rattle.snap_search.specs.declared.places.Place.TheVariants.{Below, Shared};
+ghost use Rattle.snap_stamp.specs.declared.side.Side.TheVariants.{Right};
 ghost use Rattle.snap_steps.specs.Counting.{Among};
 ghost use Rattle.snap_steps.specs.Seen.{IsOf};
 ghost use Rattle.snap_steps.specs.declared.view.Stage.TheVariants.{Writing};
@@ -67,6 +68,7 @@ fn look_for_place(
     requires row { spot.now.row ≤ rows.now.rows }
     requires reached { IsReached pass.old.view spot.now.row }
     requires present { IsPresent pass.old.view spot.now.row epoch }
+    requires faces { spot.now.row ≡ 0 → spot.now.side ≡ Right }
     requires epoch { Among epoch pass.old.view.present }
     requires way { pass.old.view.reads ≡ On key (Standing spot.now.row spot.now.stamp spot.now.side) }
     ensures { MatchResult result (λ p. Comes rows.now.rows pass.old pass.new key epoch p) (λ s. Goes rows.now.rows pass.old pass.new key epoch s.row s.stamp s.side) }

@@ -10,6 +10,7 @@ pub mod Locks
 pub mod Writes
 pub mod Leaf
 pub mod Changes
+pub mod Copies
 pub mod Below
 pub mod Way
 pub mod Clones

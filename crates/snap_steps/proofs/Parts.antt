@@ -11,3 +11,4 @@ pub mod Apart
 pub mod Worn
 pub mod Lasting
 pub mod Bases
+pub mod Linked

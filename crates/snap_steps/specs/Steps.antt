@@ -6,6 +6,7 @@ pub mod Gate
 pub mod Seats
 pub mod Fields
 pub mod Births
+pub mod Copies
 pub mod Locks
 pub mod Writes
 pub mod Changes

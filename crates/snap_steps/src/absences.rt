@@ -3,6 +3,7 @@ ghost use Rattle.std.specs.Prelude.{◌≡◌, ◌≤◌, false, None};
 ghost use Rattle.snap_model.specs.declared.call.Call.TheVariants.{Remove};
 ghost use Rattle.snap_rule.specs.declared.change.Doing.TheVariants.{Nothing};
 ghost use Rattle.snap_steps.specs.Histories.{Enters};
+ghost use Rattle.snap_steps.specs.Rule.Epochs.{AllAre};
 ghost use Rattle.snap_steps.specs.Seen.{IsOf, Becomes};
 ghost use Rattle.snap_steps.specs.States.{link_field};
 ghost use Rattle.snap_steps.specs.Steps.Writes.{entry, made_entry, IsPlace, absent_confirmed};
@@ -31,6 +32,7 @@ fn confirm_below_keyed<J: Saying>(rows: &Rows, pass: &mut Pass, row: RowNo, fiel
     requires row { row ≤ rows.now.rows }
     requires writing { pass.old.view.stage ≡ Writing false false }
     requires place { IsPlace pass.old.view J.key row field }
+    requires copies { AllAre J.key pass.old.view.copies }
     requires whole { pass.old.view.doing ≡ Nothing }
     ensures { (log : _) × Enters pass.old.view log (entry pass.old.view.who (Remove J.key) None) × Becomes pass.old pass.new (made_entry pass.old.view log (entry pass.old.view.who (Remove J.key) None)) }
 {
@@ -48,6 +50,7 @@ pub fn confirm_absent_below(rows: &Rows, pass: &mut Pass, row: RowNo, side: Side
     requires row { row ≤ rows.now.rows }
     requires writing { pass.old.view.stage ≡ Writing false false }
     requires place { IsPlace pass.old.view key row (link_field side) }
+    requires copies { AllAre key pass.old.view.copies }
     requires whole { pass.old.view.doing ≡ Nothing }
     ensures { (log : _) × Enters pass.old.view log (entry pass.old.view.who (Remove key) None) × Becomes pass.old pass.new (made_entry pass.old.view log (entry pass.old.view.who (Remove key) None)) }
 {

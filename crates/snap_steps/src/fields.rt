@@ -6,7 +6,7 @@ ghost use Rattle.snap_stamp.specs.declared.layout.Field.TheVariants.{Key, Lock, 
 ghost use Rattle.snap_steps.specs.Counting.{Among};
 ghost use Rattle.snap_steps.specs.Facts.{IsKnown};
 ghost use Rattle.snap_steps.specs.Seen.{IsOf, Becomes};
-ghost use Rattle.snap_steps.specs.Steps.Fields.{read, own_stored, word_loaded, stored_own};
+ghost use Rattle.snap_steps.specs.Steps.Fields.{read, led_to, own_stored, word_loaded, stored_own};
 
 use crate::pass::Pass;
 use crate::rows::Rows;
@@ -48,12 +48,14 @@ pub(crate) fn index_of(row: RowNo, field: Field) -> usize
     word_at(row, field) as usize
 }
 
-/// Loads a word of a row. What the pass knew of it by its lock is what it finds.
+/// Loads a word of a row. What the pass knew of it by its lock is what it finds, and a link that it finds in a row
+/// that it has reached leads to a row of the table.
 pub fn load_word(rows: &Rows, pass: &mut Pass, row: RowNo, field: Field) -> u64
     requires table { IsOf pass.old rows.now }
     requires row { row ≤ rows.now.rows }
     ensures pass { Becomes pass.old pass.new (read pass.old.view row field result) }
     ensures known { (x : ℕ) → IsKnown pass.old.view.knows row field x → result ≡ x }
+    ensures led { (c : ℕ) → Among c (led_to pass.old.view row field result) → c ≤ rows.now.rows }
 {
     let word = index_of(row, field);
     rows.table.shared.load::<LoadWord>(&mut pass.seat, word)

@@ -114,10 +114,14 @@ pub struct View {
     pub reads: Reading,
     /// The row to which all checks led it there, as long as it hasn't noted its birth.
     pub confirmed: LinkedList<u32>,
+    /// The row from which it last went on there, with its stamp and the side: the place where the way ended.
+    pub place: Reading,
     /// The change that it is in.
     pub doing: Doing,
     /// What it loaded as the epoch in this write.
     pub present: LinkedList<u64>,
+    /// The key for which it made copies of rows in this write.
+    pub copies: LinkedList<u64>,
     /// How many steps it made that may leave nothing else behind.
     pub steps: u64,
     /// The two histories that its last join put together.

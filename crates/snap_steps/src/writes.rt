@@ -8,6 +8,7 @@ ghost use Rattle.snap_stamp.specs.declared.layout.Field.TheVariants.{Key, Value}
 ghost use Rattle.snap_steps.specs.Counting.{Among};
 ghost use Rattle.snap_steps.specs.Facts.{IsKnown, IsBorn};
 ghost use Rattle.snap_steps.specs.Histories.{Enters};
+ghost use Rattle.snap_steps.specs.Rule.Epochs.{AllAre};
 ghost use Rattle.snap_steps.specs.Pairs.{added_by, taken_by};
 ghost use Rattle.snap_steps.specs.Seen.{IsOf, Becomes};
 ghost use Rattle.snap_steps.specs.States.{link_field};
@@ -89,6 +90,7 @@ pub fn store_value(rows: &Rows, pass: &mut Pass, row: RowNo, key: Key, new: u64)
     requires held { Among row pass.old.view.holds }
     requires reached { Among row pass.old.view.reached }
     requires key { IsKnown pass.old.view.knows row Key key }
+    requires copies { AllAre key pass.old.view.copies }
     requires born { IsBorn pass.old.view row }
     ensures known { (x : ℕ) → IsKnown pass.old.view.knows row Value x → result ≡ x }
     ensures entry { (log : _) × Enters pass.old.view log (entry pass.old.view.who (call_of key new) (value_of result)) × Becomes pass.old pass.new (stored pass.old.view log (entry pass.old.view.who (call_of key new) (value_of result)) row new) }
@@ -127,6 +129,7 @@ fn confirm_keyed<J: Saying>(rows: &Rows, pass: &mut Pass, row: RowNo, key: Key)
     requires held { Among row pass.old.view.holds }
     requires reached { Among row pass.old.view.reached }
     requires known { IsKnown pass.old.view.knows row Key key × IsKnown pass.old.view.knows row Value 0 }
+    requires copies { AllAre key pass.old.view.copies }
     requires born { IsBorn pass.old.view row }
     ensures { (log : _) × Enters pass.old.view log (entry pass.old.view.who (Remove J.key) None) × Becomes pass.old pass.new (made_entry pass.old.view log (entry pass.old.view.who (Remove J.key) None)) }
 {
@@ -146,6 +149,7 @@ pub fn confirm_absent(rows: &Rows, pass: &mut Pass, row: RowNo, key: Key)
     requires held { Among row pass.old.view.holds }
     requires reached { Among row pass.old.view.reached }
     requires known { IsKnown pass.old.view.knows row Key key × IsKnown pass.old.view.knows row Value 0 }
+    requires copies { AllAre key pass.old.view.copies }
     requires born { IsBorn pass.old.view row }
     ensures { (log : _) × Enters pass.old.view log (entry pass.old.view.who (Remove key) None) × Becomes pass.old pass.new (made_entry pass.old.view log (entry pass.old.view.who (Remove key) None)) }
 {
@@ -176,6 +180,7 @@ fn link_placed<J: Leaf>(
     requires writing { pass.old.view.stage ≡ Writing false false }
     requires made { IsLeaf pass.old.view row key value }
     requires place { IsPlace pass.old.view key parent field }
+    requires copies { AllAre key pass.old.view.copies }
     requires whole { pass.old.view.doing ≡ Nothing }
     ensures { (log : _) × Enters pass.old.view log (entry pass.old.view.who (Put J.key J.value) None) × Becomes pass.old pass.new (hung pass.old.view log (entry pass.old.view.who (Put J.key J.value) None) J.below J.by_field row) }
 {
@@ -203,6 +208,7 @@ pub fn link_leaf(
     requires writing { pass.old.view.stage ≡ Writing false false }
     requires made { IsLeaf pass.old.view row key value }
     requires place { IsPlace pass.old.view key parent (link_field side) }
+    requires copies { AllAre key pass.old.view.copies }
     requires whole { pass.old.view.doing ≡ Nothing }
     ensures { (log : _) × Enters pass.old.view log (entry pass.old.view.who (Put key value) None) × Becomes pass.old pass.new (hung pass.old.view log (entry pass.old.view.who (Put key value) None) parent (link_field side) row) }
 {

@@ -11,6 +11,7 @@ use Rattle.snap_search.specs.Work.{NotesMore}
 use Rattle.snap_search.proofs.Walking.{extends_on}
 use Rattle.snap_search.proofs.Working.{notes_on}
 use Rattle.snap_steps.specs.Histories.{Extends}
+use Rattle.snap_steps.specs.Rule.Epochs.{AllAre}
 use Rattle.snap_steps.specs.Seen.{Known, Becomes}
 use Rattle.snap_steps.specs.Steps.Gate.{idled}
 use Rattle.snap_steps.specs.Steps.Header.{all_handed, all_epochs}
@@ -53,8 +54,8 @@ pub leave_noted : (mid new : Known) (old : View) (l : List WordNote) → Becomes
 leave_noted mid new old l e n = record { notes = ap (λ (k : Known). k.view.notes) e ∙ n.notes; handed = ap (λ (k : Known). k.view.handed) e ∙ n.handed; epochs = ap (λ (k : Known). k.view.epochs) e ∙ n.epochs }
 
 -- a pass that has entered is ready to write
-pub ready : (old mid : Known) → IsIdle old.view → HasEntered old mid → IsReady mid.view
-ready old mid idle h = record { writing = ap (λ (k : Known). k.view.stage) h.is; free = ap (λ (k : Known). k.view.holds) h.is ∙ idle.free; whole = ap (λ (k : Known). k.view.doing) h.is ∙ idle.whole }
+pub ready : (old mid : Known) (key : ℕ) → IsIdle old.view → HasEntered old mid → IsReady mid.view key
+ready old mid key idle h = record { writing = ap (λ (k : Known). k.view.stage) h.is; free = ap (λ (k : Known). k.view.holds) h.is ∙ idle.free; whole = ap (λ (k : Known). k.view.doing) h.is ∙ idle.whole; copies = subst (λ (k : Known). AllAre key k.view.copies) (sym h.is) tt }
 
 pub replies : (old a b new : Known) (call : Call) (reply : Option ℕ) → IsIdle old.view → HasEntered old a → Writes a b call reply → Becomes b new (idled b.view) → Replies old new call reply
 replies old a b new call reply idle h w e =
@@ -85,6 +86,7 @@ replies old a b new call reply idle h w e =
         rows = m.links.rows;
         drawn = ap (λ (k : Known). k.view.drawn) e ∙ m.links.drawn ∙ ap (λ (k : Known). k.view.drawn ++ m.links.rows) h.is;
         linked = λ r some. ap (λ (k : Known). times r k.view.own) e ∙ m.links.linked r some;
+        no_more = λ r. omega (arith, ap (λ (k : Known). times r k.view.own) e, m.links.no_more r, ap (λ (k : Known). times r k.view.own) h.is);
       };
     }
 
@@ -108,6 +110,7 @@ refuses rows old a b new call idle h f e =
         rows = f.links.rows;
         drawn = ap (λ (k : Known). k.view.drawn) e ∙ f.links.drawn ∙ ap (λ (k : Known). k.view.drawn ++ f.links.rows) h.is;
         linked = λ r some. ap (λ (k : Known). times r k.view.own) e ∙ f.links.linked r some;
+        no_more = λ r. omega (arith, ap (λ (k : Known). times r k.view.own) e, f.links.no_more r, ap (λ (k : Known). times r k.view.own) h.is);
       };
       more = h.more ++ f.more;
       noted = leave_noted b new old.view (h.more ++ f.more) e (notes_on old.view a.view b.view h.more f.more (enter_noted old a h) f.noted);

@@ -1,7 +1,7 @@
 -- Steps before the entry of a write, and after it.
-use Rattle.std.proofs.Common.{◌≡◌, inl, inr, ℕ, ◌<◌, List, [], ◌∷◌, ◌++◌, append_assoc, append-nil, Option, None, refl, sym, ap, ◌∙◌, subst, arith}
+use Rattle.std.proofs.Common.{◌≡◌, inl, inr, ℕ, ◌<◌, ◌≤◌, List, [], ◌∷◌, ◌++◌, append_assoc, append-nil, Option, None, refl, sym, ap, ◌∙◌, subst, arith}
 use Rattle.snap_locks.specs.Held.{HasLocked}
-use Rattle.snap_model.specs.History.{Begins, IsLegal, calls_of, call_key}
+use Rattle.snap_model.specs.History.{Begins, IsLegal, calls_of}
 use Rattle.snap_model.specs.declared.call.Call.{Call}
 use Rattle.snap_model.specs.declared.call.Entry.{Entry}
 use Rattle.snap_search.specs.Walk.{SeesMore}
@@ -9,7 +9,7 @@ use Rattle.snap_search.specs.Work.{Works, NotesMore}
 use mathlib.Core.Logic.{dite}
 use native.Mathlib.Decide.{ℕ_discrete}
 use Rattle.snap_rule.specs.State.{In}
-use Rattle.snap_search.proofs.Walking.{begins_on, sees_on, times-append}
+use Rattle.snap_search.proofs.Walking.{begins_on, times-append}
 use Rattle.snap_search.proofs.Working.{notes_on, no_notes, works_on}
 use Rattle.snap_steps.specs.Counting.{times, removed}
 use Rattle.snap_steps.specs.Histories.{Enters}
@@ -19,14 +19,14 @@ use Rattle.snap_steps.specs.Drawing.{HasDrawn, notes_of}
 use Rattle.snap_steps.specs.Steps.Draws.{drew}
 use Rattle.snap_steps.specs.Steps.Header.{all_noted}
 use Rattle.snap_steps.specs.Steps.Writes.{entry, stored, made_entry, hung}
-use Rattle.snap_steps.proofs.Totals.{removed_same, one_other, total-append}
+use Rattle.snap_steps.proofs.Totals.{removed_same, removed_other, one_other}
 use Rattle.snap_stamp.specs.declared.layout.Field.{Field}
 use Rattle.snap_model.specs.declared.call.Call.TheVariants.{Put}
 use Rattle.snap_update.specs.Held.{Fills}
 use Rattle.snap_steps.specs.declared.view.WordNote.{WordNote}
 use Rattle.snap_steps.specs.declared.view.WordNote.TheVariants.{Epoch}
 use Rattle.snap_steps.specs.declared.view.View.{View}
-use Rattle.snap_update.specs.Answers.{written, Made, Writes, PutsAbsent, Refuses, is_older, NeedsRow, RefusedFull}
+use Rattle.snap_update.specs.Answers.{written, Made, Writes, PutsAbsent, Refuses, RefusedFull}
 use Rattle.snap_update.proofs.Holding.{works_freed, removed_alone}
 
 -- a step after which the pass is as the view says is one of a write where the view differs in nothing else
@@ -66,8 +66,8 @@ goes_from : (v w : View) (h : List Entry) → SeesMore v w → Begins w.seen h �
 goes_from v w h (inl e) b = subst (λ (l : List Entry). Begins l h) e b
 goes_from v w h (inr x) b = begins_on v.seen w.seen h x.goes_on b
 
-pub made_after : (old mid new : Known) (l : List WordNote) (rows : List ℕ) (call : Call) (reply : Option ℕ) → Before old mid l rows → ((r : ℕ) → 0 < times r rows → times r new.view.own ≡ 0) → Made mid new call reply → Made old new call reply
-made_after old mid new l rows call reply b linked m =
+pub made_after : (old mid new : Known) (l : List WordNote) (rows : List ℕ) (call : Call) (reply : Option ℕ) → Before old mid l rows → ((r : ℕ) → 0 < times r rows → times r new.view.own ≡ 0) → ((r : ℕ) → times r new.view.own ≤ times r old.view.own) → Made mid new call reply → Made old new call reply
+made_after old mid new l rows call reply b linked no_more m =
     let who : mid.view.who ≡ old.view.who = ap (λ (k : Known). k.view.who) b.is in
     let same : entry mid.view.who call reply ≡ entry old.view.who call reply = ap (λ (i : ℕ). entry i call reply) who in record {
       is = written_on old mid new b.is m.is;
@@ -86,6 +86,7 @@ made_after old mid new l rows call reply b linked m =
         rows = rows ++ m.links.rows;
         drawn = m.links.drawn ∙ ap (λ (x : List ℕ). x ++ m.links.rows) b.drawn ∙ append_assoc old.view.drawn rows m.links.rows;
         linked = λ r some. dite (ℕ_discrete (times r rows) 0) (λ z. m.links.linked r (omega (arith, some, times-append r rows m.links.rows))) (λ nz. linked r (omega arith));
+        no_more = no_more;
       };
     }
 
@@ -99,18 +100,18 @@ made_freed old mid new row call reply m e = record {
   stage = ap (λ (k : Known). k.view.stage) e ∙ m.stage;
   more = m.more;
   noted = record { notes = ap (λ (k : Known). k.view.notes) e ∙ m.noted.notes; handed = ap (λ (k : Known). k.view.handed) e ∙ m.noted.handed; epochs = ap (λ (k : Known). k.view.epochs) e ∙ m.noted.epochs };
-  links = record { rows = m.links.rows; drawn = ap (λ (k : Known). k.view.drawn) e ∙ m.links.drawn; linked = λ r q. ap (λ (k : Known). times r k.view.own) e ∙ m.links.linked r q };
+  links = record { rows = m.links.rows; drawn = ap (λ (k : Known). k.view.drawn) e ∙ m.links.drawn; linked = λ r q. ap (λ (k : Known). times r k.view.own) e ∙ m.links.linked r q; no_more = λ r. omega (arith, ap (λ (k : Known). times r k.view.own) e, m.links.no_more r) };
 }
 
 -- a write whose row is locked before it and freed after it
 pub writes_locked : (old a b new : Known) (row : ℕ) (call : Call) (reply : Option ℕ) → HasLocked old a row → Writes a b call reply → Becomes b new (unlocked b.view row) → old.view.holds ≡ [] → Writes old new call reply
 writes_locked old a b new row call reply l w e free = record {
-  made = made_freed old b new row call reply (made_after old a b [] [] call reply (lock_before old a row l) (λ r some. absurd (omega arith)) w.made) e;
+  made = made_freed old b new row call reply (made_after old a b [] [] call reply (lock_before old a row l) (λ r some. absurd (omega arith)) (λ r. omega (arith, w.made.links.no_more r, ap (λ (k : Known). times r k.view.own) l.is)) w.made) e;
   holds = ap (λ (k : Known). k.view.holds) e ∙ ap (removed row) (w.holds ∙ ap (λ (k : Known). k.view.holds) l.is ∙ ap (λ (h : List ℕ). row ∷ h) free) ∙ removed_alone row ∙ sym free;
 }
 
 pub writes_after : (old mid new : Known) (l : List WordNote) (call : Call) (reply : Option ℕ) → Works old mid l → Writes mid new call reply → Writes old new call reply
-writes_after old mid new l call reply w m = record { made = made_after old mid new l [] call reply (works_before old mid l w) (λ r some. absurd (omega arith)) m.made; holds = m.holds ∙ ap (λ (k : Known). k.view.holds) w.is }
+writes_after old mid new l call reply w m = record { made = made_after old mid new l [] call reply (works_before old mid l w) (λ r some. absurd (omega arith)) (λ r. omega (arith, m.made.links.no_more r, ap (λ (k : Known). times r k.view.own) w.is)) m.made; holds = m.holds ∙ ap (λ (k : Known). k.view.holds) w.is }
 
 -- a refusal, likewise
 pub refuses_locked : (rows : ℕ) (old a b new : Known) (row : ℕ) (call : Call) → HasLocked old a row → Refuses rows a b call → Becomes b new (unlocked b.view row) → old.view.holds ≡ [] → Refuses rows old new call
@@ -150,7 +151,7 @@ stores_here old new call reply log row x enters e = record {
     stage = ap (λ (k : Known). k.view.stage) e;
     more = [];
     noted = no_notes old.view new.view (ap (λ (k : Known). k.view.notes) e) (ap (λ (k : Known). k.view.handed) e) (ap (λ (k : Known). k.view.epochs) e);
-    links = record { rows = []; drawn = ap (λ (k : Known). k.view.drawn) e ∙ sym (append-nil old.view.drawn); linked = λ r some. absurd (omega arith) };
+    links = record { rows = []; drawn = ap (λ (k : Known). k.view.drawn) e ∙ sym (append-nil old.view.drawn); linked = λ r some. absurd (omega arith); no_more = λ r. omega (arith, ap (λ (k : Known). times r k.view.own) e) };
   };
   holds = ap (λ (k : Known). k.view.holds) e;
 }
@@ -166,10 +167,17 @@ confirms_here old new call reply log enters e = record {
     stage = ap (λ (k : Known). k.view.stage) e;
     more = [];
     noted = no_notes old.view new.view (ap (λ (k : Known). k.view.notes) e) (ap (λ (k : Known). k.view.handed) e) (ap (λ (k : Known). k.view.epochs) e);
-    links = record { rows = []; drawn = ap (λ (k : Known). k.view.drawn) e ∙ sym (append-nil old.view.drawn); linked = λ r some. absurd (omega arith) };
+    links = record { rows = []; drawn = ap (λ (k : Known). k.view.drawn) e ∙ sym (append-nil old.view.drawn); linked = λ r some. absurd (omega arith); no_more = λ r. omega (arith, ap (λ (k : Known). times r k.view.own) e) };
   };
   holds = ap (λ (k : Known). k.view.holds) e;
 }
+
+-- without a row a list has no more of any other
+removed_le : (x r : ℕ) (l : List ℕ) → times r (removed x l) ≤ times r l
+removed_le x r l = dite (ℕ_discrete r x) (λ same. omega (arith, ap (λ (i : ℕ). times i (removed x l)) same, removed_same x l)) (λ ne. omega (arith, removed_other x r l ne))
+
+pub removed_added : (x r : ℕ) (l : List ℕ) → times r (removed x (x ∷ l)) ≤ times r l
+removed_added x r l = dite (ℕ_discrete r x) (λ same. omega (arith, ap (λ (i : ℕ). times i (removed x (x ∷ l))) same, removed_same x (x ∷ l))) (λ ne. omega (arith, removed_other x r (x ∷ l) ne, one_other r x ne))
 
 -- a row was drawn, filled and linked
 drawn_before : (rows : ℕ) (old a b : Known) (leaf key value : ℕ) (d : HasDrawn rows old a leaf) → Fills a b leaf key value → Before old b (notes_of d.0) (leaf ∷ [])
@@ -199,47 +207,29 @@ hangs rows old a b new leaf key value parent field log d f enters e =
       stage = ap (λ (k : Known). k.view.stage) e;
       more = [];
       noted = no_notes b.view new.view (ap (λ (k : Known). k.view.notes) e) (ap (λ (k : Known). k.view.handed) e) (ap (λ (k : Known). k.view.epochs) e);
-      links = record { rows = []; drawn = ap (λ (k : Known). k.view.drawn) e ∙ sym (append-nil b.view.drawn); linked = λ r some. absurd (omega arith) };
+      links = record { rows = []; drawn = ap (λ (k : Known). k.view.drawn) e ∙ sym (append-nil b.view.drawn); linked = λ r some. absurd (omega arith); no_more = λ r. omega (arith, ap (times r) own, removed_le leaf r b.view.own) };
     } in record {
       made = made_after old b new (notes_of d.0) (leaf ∷ []) (Put key value) None (drawn_before rows old a b leaf key value d f)
-          (λ r some. dite (ℕ_discrete r leaf) (λ same. ap (times r) own ∙ (λ i. times (same i) (removed leaf b.view.own)) ∙ removed_same leaf b.view.own) (λ ne. absurd (omega (arith, some, one_other r leaf ne)))) made;
+          (λ r some. dite (ℕ_discrete r leaf) (λ same. ap (times r) own ∙ (λ i. times (same i) (removed leaf b.view.own)) ∙ removed_same leaf b.view.own) (λ ne. absurd (omega (arith, some, one_other r leaf ne)))) (λ r. omega (arith, ap (times r) own, ap (λ (k : Known). times r (removed leaf k.view.own)) f.is, ap (λ (k : Known). times r (removed leaf k.view.own)) d.3, removed_added leaf r old.view.own)) made;
       holds = ap (λ (k : Known). k.view.holds) e ∙ ap (λ (k : Known). k.view.holds) f.is ∙ ap (λ (k : Known). k.view.holds) d.3;
     }
 
 -- a refusal, with a note of the epoch that came before it or with it
-pub refused_after : (rows : ℕ) (old mid new : Known) (l : List WordNote) (call : Call) (e : ℕ) → Works old mid l → (r : Refuses rows mid new call) → In (Epoch e) (l ++ r.more) → RefusedFull rows old new call
-refused_after rows old mid new l call e w r noted = let on = works_on old mid new l r.more w r.works in record {
-  is = on.is ∙ ap (λ (k : Known). written old k.view) (sym on.is);
-  mine = ap (λ (k : Known). k.view.mine) on.is;
-  stage = ap (λ (k : Known). k.view.stage) on.is;
-  holds = ap (λ (k : Known). k.view.holds) on.is;
-  sees = on.sees;
-  links = record { rows = []; drawn = ap (λ (k : Known). k.view.drawn) on.is ∙ sym (append-nil old.view.drawn); linked = λ n some. absurd (omega arith) };
-  more = l ++ r.more;
-  noted = on.noted;
-  full = in_right _ l r.more r.full;
-  epoch = e;
-  epoch_noted = noted;
-  cause = inl r.absent;
-}
-
--- a refusal after work
-pub refused_later : (rows : ℕ) (old mid new : Known) (l : List WordNote) (call : Call) → Works old mid l → RefusedFull rows mid new call → RefusedFull rows old new call
-refused_later rows old mid new l call w r = record {
-  is = written_on old mid new (w.is ∙ ap (λ (k : Known). written old k.view) (sym w.is)) r.is;
-  mine = r.mine ∙ ap (λ (k : Known). k.view.mine) w.is;
-  stage = r.stage ∙ ap (λ (k : Known). k.view.stage) w.is;
-  holds = r.holds ∙ ap (λ (k : Known). k.view.holds) w.is;
-  sees = sees_on old.view mid.view new.view (ap (λ (k : Known). k.view.who) w.is) (ap (λ (k : Known). k.view.mine) w.is) w.sees r.sees;
-  links = record { rows = r.links.rows; drawn = r.links.drawn ∙ ap (λ (k : Known). k.view.drawn ++ r.links.rows) w.is; linked = r.links.linked };
-  more = l ++ r.more;
-  noted = notes_on old.view mid.view new.view l r.more w.noted r.noted;
-  full = in_right _ l r.more r.full;
-  epoch = r.epoch;
-  epoch_noted = in_right _ l r.more r.epoch_noted;
-  cause = cause r.cause;
-}
-  where
-    cause : NeedsRow call new.view.seen r.epoch r.links.rows r.more → NeedsRow call new.view.seen r.epoch r.links.rows (l ++ r.more)
-    cause (inl h) = inl h
-    cause (inr h) = inr (omega (arith, h, total-append (is_older (call_key call) r.epoch) l r.more))
+pub refused_after : (rows : ℕ) (old mid new : Known) (l : List WordNote) (call : Call) (e : ℕ) → Works old mid l → (r : Refuses rows mid new call) → In (Epoch e) (l ++ r.more) → (f : RefusedFull rows old new call) × (f.epoch ≡ e)
+refused_after rows old mid new l call e w r noted = let on = works_on old mid new l r.more w r.works in (
+  record {
+    is = on.is ∙ ap (λ (k : Known). written old k.view) (sym on.is);
+    mine = ap (λ (k : Known). k.view.mine) on.is;
+    stage = ap (λ (k : Known). k.view.stage) on.is;
+    holds = ap (λ (k : Known). k.view.holds) on.is;
+    sees = on.sees;
+    links = record { rows = []; drawn = ap (λ (k : Known). k.view.drawn) on.is ∙ sym (append-nil old.view.drawn); linked = λ n some. absurd (omega arith); no_more = λ n. omega (arith, ap (λ (k : Known). times n k.view.own) on.is) };
+    more = l ++ r.more;
+    noted = on.noted;
+    full = in_right _ l r.more r.full;
+    epoch = e;
+    epoch_noted = noted;
+    cause = inl r.absent;
+  },
+  refl,
+)

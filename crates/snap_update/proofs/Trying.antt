@@ -3,17 +3,21 @@ use Rattle.std.proofs.Common.{inl, inr, ℕ, List, [], ◌∷◌, ◌++◌, refl
 use Rattle.snap_model.specs.declared.call.Call.{Call}
 use Rattle.snap_model.specs.declared.call.Call.TheVariants.{Put}
 use Rattle.snap_rule.specs.State.{In}
-use Rattle.snap_search.specs.Places.{Finds, births_of}
+use Rattle.snap_search.specs.Places.{Finds}
 use Rattle.snap_search.specs.Work.{worked, Works}
 use Rattle.snap_search.specs.declared.places.Place.{Place}
+use Rattle.snap_search.specs.declared.places.Place.TheVariants.{Shared}
+use Rattle.snap_stamp.specs.declared.side.Side.{Side}
+use Rattle.snap_update.proofs.Going.{found, none_met, shared_met, shared_full}
+use Rattle.snap_model.specs.History.{call_key}
 use Rattle.snap_search.proofs.Working.{works_on}
 use Rattle.snap_steps.specs.Drawing.{FoundFull, notes_of}
 use Rattle.snap_steps.specs.Counting.{times, Among}
 use Rattle.snap_steps.specs.Facts.{IsKnown}
 use Rattle.snap_steps.specs.Seen.{Known}
 use Rattle.snap_steps.specs.declared.view.WordNote.{WordNote}
-use Rattle.snap_steps.specs.declared.view.WordNote.TheVariants.{Next, Done, Epoch}
-use Rattle.snap_update.specs.Attempts.{Attempts, Tries, RefusesOr}
+use Rattle.snap_steps.specs.declared.view.WordNote.TheVariants.{Next}
+use Rattle.snap_update.specs.Attempts.{Attempts, Brings, Tries, RefusesOr}
 use Rattle.snap_update.specs.declared.attempt.Attempt.{Attempt}
 use Rattle.snap_update.specs.declared.attempt.Attempt.TheVariants.{Made, Again, Refused}
 use Rattle.snap_update.proofs.Entering.{writes_after, refuses_after, refused_after, in_left}
@@ -23,16 +27,17 @@ attempts_after rows old mid new l call (Made reply) w h = writes_after old mid n
 attempts_after rows old mid new l call Again w h = (l ++ h.0, works_on old mid new l h.0 w h.1)
 attempts_after rows old mid new l call (Refused f) w h = (h.0, refuses_after rows old mid new l call w h.1)
 
--- the notes of a search
-abbrev found : {rows : ℕ} {old mid : Known} (key : ℕ) (p : Place) → Finds rows old mid key p → List WordNote
-found key p f = Epoch f.epoch ∷ Done f.counted ∷ births_of key f.births
+pub tries_after : (rows : ℕ) (old mid new : Known) (p : Place) (call : Call) (t : Attempt) → Finds rows old mid (call_key call) p → Attempts rows mid new call t → Tries rows old new call t
+tries_after rows old mid new p call (Made reply) f h = writes_after old mid new (found (call_key call) f.epoch f.counted f.births) call reply f.works h
+tries_after rows old mid new p call Again f h = none_met rows old mid new (call_key call) p f h.0 h.1
+tries_after rows old mid new p call (Refused x) f h =
+    let r = refused_after rows old mid new (found (call_key call) f.epoch f.counted f.births) call f.epoch f.works h.1 (inl refl) in
+    (h.0, r.0, λ e now. r.1 ∙ f.same e now)
 
-pub tries_after : (rows : ℕ) (old mid new : Known) (key : ℕ) (p : Place) (call : Call) (t : Attempt) → Finds rows old mid key p → Attempts rows mid new call t → Tries rows old new call t
-tries_after rows old mid new key p call (Made reply) f h = writes_after old mid new (found key p f) call reply f.works h
-tries_after rows old mid new key p call Again f h = let l : List WordNote = found key p f in (l ++ h.0, works_on old mid new l h.0 f.works h.1)
-tries_after rows old mid new key p call (Refused x) f h =
-    let l : List WordNote = found key p f in
-    (h.0, refused_after rows old mid new l call f.epoch f.works h.1 (inl refl))
+pub tries_shared : (rows : ℕ) (old mid new : Known) (row stamp : ℕ) (side : Side) (call : Call) (t : Attempt) → Finds rows old mid (call_key call) (Shared row stamp side) → Brings rows mid new (call_key call) t → Tries rows old new call t
+tries_shared rows old mid new row stamp side call (Made reply) f h = absurd h
+tries_shared rows old mid new row stamp side call Again f h = shared_met rows old mid new (call_key call) row stamp side f h.0 h.1
+tries_shared rows old mid new row stamp side call (Refused x) f h = let r = shared_full rows old mid new call row stamp side f h.1 h.2 h.3 in (h.0, r.0, r.1)
 
 last_full : (rows : ℕ) (ns : List ℕ) → In (Next rows) (notes_of (ns ++ rows ∷ []))
 last_full rows [] = inl refl

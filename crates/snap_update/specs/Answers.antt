@@ -1,5 +1,5 @@
 -- What a write answers: its entry, or that no row was left.
-use Rattle.std.specs.Prelude.{◌≡◌, ◌⊎◌, ◌==◌, cond, nat_lt, length, ℕ, ◌+◌, ◌<◌, ◌^◌, List, [], ◌∷◌, ◌++◌, Option, None, true, false}
+use Rattle.std.specs.Prelude.{◌≡◌, ◌⊎◌, ◌==◌, cond, nat_lt, length, ℕ, ◌+◌, ◌<◌, ◌≤◌, ◌^◌, List, [], ◌∷◌, ◌++◌, Option, None, true, false}
 use Rattle.snap_model.specs.History.{told, call_key}
 use Rattle.snap_model.specs.declared.call.Call.{Call}
 use Rattle.snap_model.specs.declared.call.Call.TheVariants.{Put, Remove}
@@ -23,18 +23,19 @@ FitsWord (Remove k) = Unit {0}
 
 -- the pass with what another view has of a write: its entry, its work, and the rows that it holds and drew
 abbrev pub written : Known → View → Known
-written k w = record { table = k.table; view = record k.view { stage = w.stage; seen = w.seen; mine = w.mine; notes = w.notes; handed = w.handed; epochs = w.epochs; worn = w.worn; drawn = w.drawn; holds = w.holds; knows = w.knows; refused = w.refused; lasting = w.lasting; reached = w.reached; own = w.own; wrote = w.wrote; reads = w.reads; confirmed = w.confirmed; present = w.present; steps = w.steps } }
+written k w = record { table = k.table; view = record k.view { stage = w.stage; seen = w.seen; mine = w.mine; notes = w.notes; handed = w.handed; epochs = w.epochs; worn = w.worn; drawn = w.drawn; holds = w.holds; knows = w.knows; refused = w.refused; lasting = w.lasting; reached = w.reached; own = w.own; wrote = w.wrote; reads = w.reads; confirmed = w.confirmed; place = w.place; present = w.present; copies = w.copies; steps = w.steps } }
 
 -- the call is a put of a key that the map after this history lacks
 abbrev pub PutsAbsent : Call → List Entry → Type 0
 PutsAbsent (Put k v) h = told h k ≡ None
 PutsAbsent (Remove k) h = ⊥
 
--- each row that was drawn since is linked
+-- each row that was drawn since is linked, and no row is left unlinked that was not before
 pub record LinksWhatItDraws (v w : View) : Type 0 where
   pub rows : List ℕ
   pub drawn : w.drawn ≡ v.drawn ++ rows
   pub linked : (r : ℕ) → 0 < times r rows → times r w.own ≡ 0
+  pub no_more : (r : ℕ) → times r w.own ≤ times r v.own
 
 -- the pass has made the entry of the call, with this reply, at the end of the whole history
 pub record Made (old new : Known) (call : Call) (reply : Option ℕ) : Type 0 where

@@ -5,6 +5,7 @@ use Rattle.snap_search.specs.Work.{Works}
 use Rattle.snap_stamp.specs.declared.layout.Field.TheVariants.{Stamp}
 use Rattle.snap_steps.specs.Counting.{times}
 use Rattle.snap_steps.specs.Facts.{IsKnown, IsBorn}
+use Rattle.snap_steps.specs.Rule.Epochs.{AllAre}
 use Rattle.snap_steps.specs.Seen.{Known}
 use Rattle.snap_steps.specs.Steps.Writes.{IsLeaf}
 use Rattle.snap_steps.specs.declared.view.Fact.{Fact}
@@ -12,11 +13,12 @@ use Rattle.snap_steps.specs.declared.view.WordNote.TheVariants.{Epoch}
 use Rattle.snap_steps.specs.declared.view.Stage.TheVariants.{Writing}
 use Rattle.snap_steps.specs.declared.view.View.{View}
 
--- in a write without its entry, and no row is held
-pub record IsReady (v : View) : Type 0 where
+-- in a write without its entry, no row is held, and copies were made for no other key
+pub record IsReady (v : View) (key : ℕ) : Type 0 where
   pub writing : v.stage ≡ Writing false false
   pub free : v.holds ≡ []
   pub whole : v.doing ≡ Nothing
+  pub copies : AllAre key v.copies
 
 -- one row is held
 abbrev pub Holds : View → ℕ → Type 0
@@ -32,6 +34,7 @@ pub record Checks (old new : Known) : Type 0 where
 pub record IsStill (old new : Known) (row stamp epoch : ℕ) : Type 0 where
   pub works : Works old new (Epoch epoch ∷ [])
   pub at : new.view.reads ≡ old.view.reads
+  pub place : new.view.place ≡ old.view.place
   pub now : 0 < times epoch new.view.present
   pub still : IsKnown new.view.knows row Stamp stamp
   pub live : (row ≡ 0) ⊎ IsBorn new.view row

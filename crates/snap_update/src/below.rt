@@ -7,6 +7,7 @@ ghost use Rattle.snap_rule.specs.declared.reader.Point.TheVariants.{NoLink};
 ghost use Rattle.snap_rule.specs.declared.reader.Reading.TheVariants.{On};
 ghost use Rattle.snap_search.specs.Work.{IsReached};
 ghost use Rattle.snap_steps.specs.Counting.{times};
+ghost use Rattle.snap_steps.specs.Rule.Epochs.{AllAre};
 ghost use Rattle.snap_steps.specs.Seen.{IsOf};
 ghost use Rattle.snap_steps.specs.States.{link_field};
 ghost use Rattle.snap_steps.specs.Steps.Writes.{IsLeaf, IsPlace};
@@ -38,7 +39,7 @@ pub fn write_below<R: Wait>(
     requires table { IsOf pass.old rows.now }
     requires row { row ≤ rows.now.rows }
     requires reached { IsReached pass.old.view row }
-    requires ready { IsReady pass.old.view }
+    requires ready { IsReady pass.old.view (call_key call.now) }
     requires way { pass.old.view.reads ≡ On (call_key call.now) (NoLink row stamp side) }
     requires value { FitsWord call.now }
     ensures { Attempts rows.now.rows pass.old pass.new call.now result }
@@ -64,6 +65,7 @@ fn enter_below<R: Wait>(
     requires writing { pass.old.view.stage ≡ Writing false false }
     requires whole { pass.old.view.doing ≡ Nothing }
     requires way { pass.old.view.reads ≡ On (call_key call.now) (NoLink row stamp side) }
+    requires copies { AllAre (call_key call.now) pass.old.view.copies }
     requires value { FitsWord call.now }
     ensures { Attempts rows.now.rows pass.old pass.new call.now result }
 {
@@ -100,6 +102,7 @@ fn hang<R: Wait>(
     requires whole { pass.old.view.doing ≡ Nothing }
     requires place { IsPlace pass.old.view key row (link_field side) }
     requires way { pass.old.view.reads ≡ On key (NoLink row stamp side) }
+    requires copies { AllAre key pass.old.view.copies }
     requires epoch { 0 < times epoch pass.old.view.present }
     requires value { value + 1 < 2 ^ 64 }
     ensures { Attempts rows.now.rows pass.old pass.new (Put key value) result }
@@ -155,7 +158,7 @@ fn refuse(
     }
 }
 
-fn link_of(side: Side) -> Field
+pub(crate) fn link_of(side: Side) -> Field
     ensures { result ≡ link_field side }
 {
     match side {

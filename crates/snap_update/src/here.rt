@@ -1,8 +1,10 @@
 //! A write at a row that has the key.
 ghost use Rattle.std.specs.Prelude.{◌≡◌, ◌≢◌, ◌<◌, ◌≤◌, false};
+ghost use Rattle.snap_model.specs.History.{call_key};
 ghost use Rattle.snap_rule.specs.declared.change.Doing.TheVariants.{Nothing};
 ghost use Rattle.snap_rule.specs.Tree.{value_of};
 ghost use Rattle.snap_steps.specs.Counting.{times};
+ghost use Rattle.snap_steps.specs.Rule.Epochs.{AllAre};
 ghost use Rattle.snap_steps.specs.Seen.{IsOf};
 ghost use Rattle.snap_steps.specs.declared.view.Stage.TheVariants.{Writing};
 ghost use Rattle.snap_update.specs.Answers.{FitsWord};
@@ -29,7 +31,7 @@ pub fn write_here<R: Wait>(
     requires table { IsOf pass.old rows.now }
     requires row { (row ≢ 0) × (row ≤ rows.now.rows) }
     requires reached { 0 < times row pass.old.view.reached }
-    requires ready { IsReady pass.old.view }
+    requires ready { IsReady pass.old.view (call_key call.now) }
     requires value { FitsWord call.now }
     ensures { Attempts rows.now.rows pass.old pass.new call.now result }
 {
@@ -45,6 +47,7 @@ fn store_here(rows: &Rows, pass: &mut Pass, call: &Call, row: RowNo, stamp: Stam
     requires reached { 0 < times row pass.old.view.reached }
     requires held { Holds pass.old.view row }
     requires writing { pass.old.view.stage ≡ Writing false false }
+    requires copies { AllAre (call_key call.now) pass.old.view.copies }
     requires value { FitsWord call.now }
     ensures { Attempts rows.now.rows pass.old pass.new call.now result }
 {

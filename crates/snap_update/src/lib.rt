@@ -5,6 +5,7 @@ mod attempt;
 mod below;
 mod here;
 mod placed;
+mod shared;
 mod writing;
 
 pub use attempt::Attempt;

@@ -9,6 +9,7 @@ ghost use Rattle.snap_update.specs.Held.{IsReady};
 use crate::attempt::Attempt;
 use crate::below::write_below;
 use crate::here::write_here;
+use crate::shared::own_below;
 use snap_model::Call;
 use snap_search::{Place, find_for_write};
 use snap_stamp::Key;
@@ -25,7 +26,7 @@ pub fn write<R: Wait>(
     call: &Call,
 ) -> Result<Option<u64>, Full>
     requires table { IsOf pass.old rows.now }
-    requires ready { IsReady pass.old.view }
+    requires ready { IsReady pass.old.view (call_key call.now) }
     requires value { FitsWord call.now }
     ensures { MatchResult result (λ reply. Writes pass.old pass.new call.now reply) (λ f. (f.rows ≡ rows.now.rows) × RefusedFull rows.now.rows pass.old pass.new call.now) }
 {
@@ -41,14 +42,15 @@ pub fn write<R: Wait>(
 
 fn try_write<R: Wait>(rows: &Rows, rt: &R, pass: &mut Pass, call: &Call) -> Attempt
     requires table { IsOf pass.old rows.now }
-    requires ready { IsReady pass.old.view }
+    requires ready { IsReady pass.old.view (call_key call.now) }
     requires value { FitsWord call.now }
     ensures { Tries rows.now.rows pass.old pass.new call.now result }
 {
-    match find_for_write(rows, rt, pass, key_of(call)) {
+    let key = key_of(call);
+    match find_for_write(rows, rt, pass, key) {
         Place::Here { row, stamp } => write_here(rows, rt, pass, call, row, stamp),
         Place::Below { row, stamp, side } => write_below(rows, rt, pass, call, row, stamp, side),
-        Place::Shared { .. } => Attempt::Again,
+        Place::Shared { row, stamp, side } => own_below(rows, rt, pass, key, row, stamp, side),
     }
 }
 

@@ -6,7 +6,6 @@ use Rattle.snap_rule.proofs.InChange.{doing_kept}
 use Rattle.snap_rule.specs.Doing.{Concerns, DoingOk}
 use Rattle.snap_rule.specs.State.{State as Table, Beside}
 use Rattle.snap_rule.specs.State.Change.{plain}
-use Rattle.snap_rule.specs.declared.change.Doing.{Doing}
 use Rattle.snap_stamp.specs.declared.side.Side.{Side}
 use Rattle.snap_steps.specs.Counting.{total}
 use Rattle.snap_steps.specs.Memory.{Row}
@@ -22,7 +21,6 @@ use Rattle.snap_steps.specs.Rule.Epochs.{KnowsEpoch}
 use Rattle.snap_steps.specs.Rule.Apart.{AreApart}
 use Rattle.snap_steps.specs.Rule.{Kept}
 use Rattle.snap_steps.specs.declared.view.View.{View}
-use Rattle.snap_steps.specs.declared.view.Fact.{Fact}
 use Rattle.snap_steps.specs.declared.rule.About.{About}
 use Rattle.snap_steps.proofs.EachView.{each_set, each_others, each_stays}
 use Rattle.snap_steps.proofs.Totals.{total-set}
@@ -41,44 +39,48 @@ use Rattle.snap_steps.proofs.Parts.Lasting.{lastings_evolve}
 use Rattle.snap_steps.specs.Rule.Names.{ActsAsPass}
 use Rattle.snap_steps.proofs.Parts.Worn.{worns_evolve}
 
+-- the view v, in what such a step may change, as w is
+abbrev pub with_words : View → View → View
+with_words v w = record v { steps = w.steps; doing = w.doing; knows = w.knows; own = w.own; wrote = w.wrote; reached = w.reached; copies = w.copies }
+
 -- the class of these steps
-pub rewriting : (about : About) (words : List ℕ) (views : List View) (k : Kept about words views) (id : ℕ) (v : View) (at : get_elem? views id ≡ some v) (words' : List ℕ) (rows' : List Row) (b : Beside) (steps : ℕ) (doing : Doing) (knows : List Fact) (away : ℕ → Type 0)
+pub rewriting : (about : About) (words : List ℕ) (views : List View) (k : Kept about words views) (id : ℕ) (v w : View) (at : get_elem? views id ≡ some v) (words' : List ℕ) (rows' : List Row) (b : Beside) (away : ℕ → Type 0)
     → IsMemory about words' (record k.m { rows = rows' })
-    → (let s' : Table = state_of (record k.m { rows = rows' }) (record b { history = k.g.history; writers = k.g.writers }) in Moves (state_of k.m k.g) s' away × DoingOk s' doing)
-    → ((n : ℕ) (d : Side) → total (λ u. changing n d u.doing) (set views id (record v { steps = steps; doing = doing; knows = knows })) ≡ 0 → b.pending n d ≡ plain)
-    → HoldsIts (record v { steps = steps; doing = doing; knows = knows }) → ((j : ℕ) (u : View) → j ≢ id → get_elem? views j ≡ some u → (n : ℕ) → Concerns u.doing n → away n)
-    → AreLocked rows' (set views id (record v { steps = steps; doing = doing; knows = knows })) → Each (KnowsRows rows') (set views id (record v { steps = steps; doing = doing; knows = knows })) → AreApart k.m.next rows' b.linked (set views id (record v { steps = steps; doing = doing; knows = knows }))
-    → Kept about words' (set views id (record v { steps = steps; doing = doing; knows = knows }))
-rewriting about words views k id v at words' rows' b steps doing knows away memory moves pending held clear locked known apart =
-    let w : View = record v { steps = steps; doing = doing; knows = knows } in
+    → (let s' : Table = state_of (record k.m { rows = rows' }) (record b { history = k.g.history; writers = k.g.writers }) in Moves (state_of k.m k.g) s' away × DoingOk s' w.doing)
+    → ((n : ℕ) (d : Side) → total (λ u. changing n d u.doing) (set views id (with_words v w)) ≡ 0 → b.pending n d ≡ plain)
+    → HoldsIts (with_words v w) → ((j : ℕ) (u : View) → j ≢ id → get_elem? views j ≡ some u → (n : ℕ) → Concerns u.doing n → away n)
+    → AreLocked rows' (set views id (with_words v w)) → Each (KnowsRows rows') (set views id (with_words v w)) → AllLinked b.linked w.reached → AreApart k.m.next rows' b.linked (set views id (with_words v w))
+    → Kept about words' (set views id (with_words v w))
+rewriting about words views k id v w at words' rows' b away memory moves pending held clear locked known reached apart =
+    let u : View = with_words v w in
     let g' : Beside = record b { history = k.g.history; writers = k.g.writers } in
     let s : Table = state_of k.m k.g in let s' : Table = state_of (record k.m { rows = rows' }) g' in let ev = moves.0.0 in
     record {
       m = record k.m { rows = rows' };
       g = g';
       memory = memory;
-      about_known = each_stays views id v w at (KnowsAbout about) k.about_known (λ p. p);
-      named = named_stays views id v w at about.passes k.named refl refl refl;
-      history = history_stays views id v w at k.g.history k.history refl refl refl refl refl refl;
-      counted = record { all = omega (arith, k.counted.all, total-set (λ u. owes_count u.stage) views id v w at); few = omega (arith, k.counted.few, total-set (λ u. has_counted u.stage) views id v w at) };
-      drawn = drawn_stays views id v w at k.m.next k.m.next k.drawn (omega arith) (λ x. refl);
-      notes = each_stays views id v w at (KnowsHeader k.m.next k.m.epoch) k.notes (λ p. p);
-      gated = gated_stays views id v w at k.m.gate k.m.left k.gated refl;
-      used = used_stays views id v w at k.m.gate k.m.epoch k.used refl refl refl refl refl;
+      about_known = each_stays views id v u at (KnowsAbout about) k.about_known (λ p. p);
+      named = named_stays views id v u at about.passes k.named refl refl refl;
+      history = history_stays views id v u at k.g.history k.history refl refl refl refl refl refl;
+      counted = record { all = omega (arith, k.counted.all, total-set (λ u. owes_count u.stage) views id v u at); few = omega (arith, k.counted.few, total-set (λ u. has_counted u.stage) views id v u at) };
+      drawn = drawn_stays views id v u at k.m.next k.m.next k.drawn (omega arith) (λ x. refl);
+      notes = each_stays views id v u at (KnowsHeader k.m.next k.m.epoch) k.notes (λ p. p);
+      gated = gated_stays views id v u at k.m.gate k.m.left k.gated refl;
+      used = used_stays views id v u at k.m.gate k.m.epoch k.used refl refl refl refl refl;
       locked = locked;
       known = known;
       table = moves.0.1;
-      writers = omega (arith, k.writers, total-set (λ u. in_write u.stage) views id v w at);
+      writers = omega (arith, k.writers, total-set (λ u. in_write u.stage) views id v u at);
       changes = pending;
-      doing = each_others views id v at w (λ j u ne there. doing_kept s s' u.doing (λ n c. moves.0.2 n (clear j u ne there n c)) (k.doing j u there)) moves.1;
-      held = each_others views id v at w (λ j u ne there. k.held j u there) held;
-      present = each_stays views id v w at (KnowsEpoch k.m.epoch) k.present (λ p. p);
-      reached = each_set {P = λ u. AllLinked k.g.linked u.reached} {Q = λ u. AllLinked b.linked u.reached} views id w k.reached (λ u p. all_linked_grows k.g.linked b.linked ev.linked u.reached p) (all_linked_grows k.g.linked b.linked ev.linked v.reached (k.reached id v at));
-      ways = each_stays views id v w at (IsOnWay s') (ways_evolve s s' views ev k.history.seen k.ways) (λ p. p);
-      worn = each_stays views id v w at (KnowsWorn s') (worns_evolve s s' views ev k.worn) (λ p. p);
-      lasting = each_stays views id v w at (λ u. AreLasting s' u.lasting) (lastings_evolve s s' views ev k.lasting) (λ p. p);
-      based = each_stays views id v w at (KnowsBase s') (bases_evolve about words views k s' ev) (λ p. p);
-      cut = cut_stays views id v w at k.m.epoch k.cut refl refl;
-      acting = each_stays views id v w at ActsAsPass k.acting (λ p. p);
+      doing = each_others views id v at u (λ j u ne there. doing_kept s s' u.doing (λ n c. moves.0.2 n (clear j u ne there n c)) (k.doing j u there)) moves.1;
+      held = each_others views id v at u (λ j u ne there. k.held j u there) held;
+      present = each_stays views id v u at (KnowsEpoch k.m.epoch) k.present (λ p. p);
+      reached = each_set {P = λ u. AllLinked k.g.linked u.reached} {Q = λ u. AllLinked b.linked u.reached} views id u k.reached (λ x p. all_linked_grows k.g.linked b.linked ev.linked x.reached p) reached;
+      ways = each_stays views id v u at (IsOnWay s') (ways_evolve s s' views ev k.history.seen k.ways) (λ p. p);
+      worn = each_stays views id v u at (KnowsWorn s') (worns_evolve s s' views ev k.worn) (λ p. p);
+      lasting = each_stays views id v u at (λ u. AreLasting s' u.lasting) (lastings_evolve s s' views ev k.lasting) (λ p. p);
+      based = each_stays views id v u at (KnowsBase s') (bases_evolve about words views k s' ev) (λ p. p);
+      cut = cut_stays views id v u at k.m.epoch k.cut refl refl;
+      acting = each_stays views id v u at ActsAsPass k.acting (λ p. p);
       apart = apart;
     }

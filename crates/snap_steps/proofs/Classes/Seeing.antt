@@ -36,7 +36,7 @@ use Rattle.snap_steps.specs.Rule.Lasting.{AreLasting}
 
 -- the view v, in what such a step may change, as w is
 abbrev pub with_sight : View → View → View
-with_sight v w = record v { steps = w.steps; seen = w.seen; joined = w.joined; notes = w.notes; handed = w.handed; epochs = w.epochs; worn = w.worn; knows = w.knows; refused = w.refused; lasting = w.lasting; reached = w.reached; reads = w.reads; confirmed = w.confirmed; present = w.present }
+with_sight v w = record v { steps = w.steps; seen = w.seen; joined = w.joined; notes = w.notes; handed = w.handed; epochs = w.epochs; worn = w.worn; knows = w.knows; refused = w.refused; lasting = w.lasting; reached = w.reached; reads = w.reads; confirmed = w.confirmed; place = w.place; present = w.present }
 
 -- a step that writes no word, after which the pass has seen or knows more
 pub seeing : (about : About) (words : List ℕ) (views : List View) (k : Kept about words views) (i id : ℕ) (v w : View) (at : get_elem? views id ≡ some v)

@@ -52,15 +52,15 @@ abbrev pub Rule : About → State (Unit {0}) View → Type 0
 Rule about s = Kept about s.words s.views
 
 -- a step that changes the turn of a pass and its notes, and of the words `gate`, `left` and `done` alone
-pub turning : (about : About) (words : List ℕ) (views : List View) (k : Kept about words views) (id : ℕ) (v : View) (at : get_elem? views id ≡ some v) (words' : List ℕ) (m' : Memory) (notes : List WordNote) (handed epochs : ℕ) (stage : Stage) (uses : ℕ) (present : List ℕ)
+pub turning : (about : About) (words : List ℕ) (views : List View) (k : Kept about words views) (id : ℕ) (v : View) (at : get_elem? views id ≡ some v) (words' : List ℕ) (m' : Memory) (notes : List WordNote) (handed epochs : ℕ) (stage : Stage) (uses : ℕ) (present copies : List ℕ)
     → IsMemory about words' m' → m'.next ≡ k.m.next → m'.epoch ≡ k.m.epoch → IsTrueOfHeader m'.next m'.epoch notes handed epochs
     → m'.done + owes_count stage ≡ k.m.done + owes_count v.stage → m'.done + k.m.left + has_counted v.stage ≤ k.m.done + m'.left + has_counted stage → m'.rows ≡ k.m.rows → ((r : ℕ) → times r v.holds ≤ in_write stage) → AllAre k.m.epoch present × (in_write stage ≡ 0 → present ≡ [])
-    → IsGated m'.gate m'.left (set views id (record v { notes = notes; handed = handed; epochs = epochs; stage = stage; uses = uses; present = present }))
-    → AreUsed m'.gate m'.epoch (set views id (record v { notes = notes; handed = handed; epochs = epochs; stage = stage; uses = uses; present = present }))
+    → IsGated m'.gate m'.left (set views id (record v { notes = notes; handed = handed; epochs = epochs; stage = stage; uses = uses; present = present; copies = copies }))
+    → AreUsed m'.gate m'.epoch (set views id (record v { notes = notes; handed = handed; epochs = epochs; stage = stage; uses = uses; present = present; copies = copies }))
     → k.m.gate / 2 ≤ m'.gate / 2 → (m'.gate / 2 ≡ k.m.gate / 2 → in_write stage ≤ in_write v.stage) → (is_counted v.role ≡ 0 → stage ≡ Idle) → CutStays v.stage stage
-    → Kept about words' (set views id (record v { notes = notes; handed = handed; epochs = epochs; stage = stage; uses = uses; present = present }))
-turning about words views k id v at words' m' notes handed epochs stage uses present memory next epoch true_notes counted few rows writing knows_epoch gated used up entering acts cut_stays_so =
-    let w : View = record v { notes = notes; handed = handed; epochs = epochs; stage = stage; uses = uses; present = present } in
+    → Kept about words' (set views id (record v { notes = notes; handed = handed; epochs = epochs; stage = stage; uses = uses; present = present; copies = copies }))
+turning about words views k id v at words' m' notes handed epochs stage uses present copies memory next epoch true_notes counted few rows writing knows_epoch gated used up entering acts cut_stays_so =
+    let w : View = record v { notes = notes; handed = handed; epochs = epochs; stage = stage; uses = uses; present = present; copies = copies } in
     let half = gated.half in let one = gated.one in let was = k.writers in
     let total_in : total (λ u. in_write u.stage) (set views id w) + in_write v.stage ≡ total (λ u. in_write u.stage) views + in_write stage = total-set (λ u. in_write u.stage) views id v w at in
     let may : MayCount (state_of k.m k.g) m'.gate m'.left (total (λ u. in_write u.stage) (set views id w)) = record { up = up; entering = λ same none. omega (arith, entering same); count = omega arith } in
@@ -99,5 +99,5 @@ turning about words views k id v at words' m' notes handed epochs stage uses pre
 pub noting : (about : About) (words : List ℕ) (views : List View) (k : Kept about words views) (i id : ℕ) (v : View) (n : WordNote) → get_elem? views id ≡ some v → IsTrueNote k.m.next k.m.epoch n
     → Kept about (set words i (get_or words i 0)) (set views id (noted v n))
 noting about words views k i id v n at is =
-    turning about words views k id v at (set words i (get_or words i 0)) k.m (v.notes ++ n ∷ []) (handed_after v.handed n) (epochs_after v.epochs n) v.stage v.uses v.present (loaded k.memory i) refl refl (header_more k.m.next k.m.epoch v n (k.notes id v at) is) refl (omega arith) refl (k.locked.writing id v at) (k.present id v at)
+    turning about words views k id v at (set words i (get_or words i 0)) k.m (v.notes ++ n ∷ []) (handed_after v.handed n) (epochs_after v.epochs n) v.stage v.uses v.present v.copies (loaded k.memory i) refl refl (header_more k.m.next k.m.epoch v n (k.notes id v at) is) refl (omega arith) refl (k.locked.writing id v at) (k.present id v at)
     (gated_stays views id v (noted v n) at k.m.gate k.m.left k.gated refl) (used_stays views id v (noted v n) at k.m.gate k.m.epoch k.used refl refl refl refl refl) (omega arith) (λ same. omega arith) (λ z. (k.acting id v at z).0) (λ z. (z, λ q. q))

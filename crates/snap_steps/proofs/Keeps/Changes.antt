@@ -121,13 +121,14 @@ shrinks about slots id me parent p r d raised x low turn stamp_known unmarked wh
       w,
       keeps,
       tt,
-      rewriting about s.words s.views k id v at (set s.words (word_at r Stamp) (x + 2)) rows' k.g (v.steps + 1) (Shrunk parent p r d raised) (w.knows) away (cell_set k.memory r Stamp low (x + 2)) moves
+      rewriting about s.words s.views k id v w at (set s.words (word_at r Stamp) (x + 2)) rows' k.g away (cell_set k.memory r Stamp low (x + 2)) moves
           (λ n e none. k.changes n e (omega (arith, none, ap (changing n e) whole, total-set (λ u. changing n e u.doing) s.views id v w at)))
           (λ n c. concerned v turn n c)
           (λ j u ne there n c q. omega (arith, k.held j u there n c, others_apart s.views id v at k.m.rows r k.locked turn.held j u ne there, ap (λ (i : ℕ). times i u.holds) q))
           (locks_stay s.views id v at k.m.rows r o w k.locked refl near refl refl refl)
           (each_others s.views id v at w (λ j u ne there. facts_elsewhere k.m.rows r o u.holds u.holds u.knows (k.known j u there) (others_apart s.views id v at k.m.rows r k.locked turn.held j u ne there) (λ y. omega arith))
           (ap (λ (y : Row). y.stamp) (row_same k.m.rows r o near), turn.held, facts_left k.m.rows r Stamp (x + 2) v.holds v.knows near known))
+          (k.reached id v at)
           (apart_changed s.views id v w at k.m.next k.m.rows k.g.linked k.apart (λ u j there. omega (arith, k.drawn.none_zero, term_le (λ y. times 0 y.drawn) s.views j u there)) r o
           (λ y pos z ne. let q = row_other k.m.rows r y o ne in let f = k.apart.fresh y pos z in (ap (λ (i : Row). i.lock) q ∙ f.0, ap (λ (i : Row). i.stamp) q ∙ f.1)) (λ pos. in_times r k.g.linked (linked r turn.reached)) refl refl refl),
       refl,

@@ -1,5 +1,5 @@
 -- Loads of a row's words and stores in own rows keep the rule.
-use Rattle.std.proofs.Common.{◌≡◌, ℕ, ◌≤◌, nat_lt, ◌∷◌, get_or, sym, refl, ◌∙◌, arith, ◌≢◌, ◌<◌, length, ap, ⊎_elim}
+use Rattle.std.proofs.Common.{List, subst, ◌≡◌, ℕ, ◌≤◌, nat_lt, ◌∷◌, get_or, sym, refl, ◌∙◌, arith, ◌≢◌, ◌<◌, length, ap, ⊎_elim}
 use Rattle.std.proofs.lemmas.Bool.{cond_both}
 use Rattle.std.proofs.lemmas.Bool.Decides.{nat_tests}
 use lib.ListN.{get_elem?}
@@ -21,7 +21,9 @@ use Rattle.snap_steps.specs.declared.view.View.{View}
 use Rattle.snap_steps.specs.declared.rule.About.{About}
 use Rattle.snap_steps.proofs.Prefixes.{begins_itself}
 use Rattle.snap_steps.proofs.Cells.{cell_is, one_word, cell_set, changed, field_other, field_same, row_other, row_same}
-use Rattle.snap_steps.proofs.Reached.{in_append, led_in}
+use Rattle.snap_steps.proofs.Reached.{in_append, led_in, in_of}
+use Rattle.snap_steps.specs.Roles.{is_live}
+use Rattle.snap_steps.specs.declared.view.Role.TheVariants.{Passing}
 use Rattle.snap_steps.proofs.Knowing.{known_is, facts_elsewhere, facts_left}
 use Rattle.snap_steps.proofs.Classes.Turning.{Rule}
 use Rattle.snap_steps.specs.Steps.Told.{Sat}
@@ -53,19 +55,20 @@ use Rattle.snap_steps.specs.Rule.Names.{ActsAsPass}
 use Rattle.snap_steps.proofs.Parts.Worn.{worns_evolve, or_cases, last_found}
 
 -- `load_word`
-pub reads : (about : About) (slots id : ℕ) (me : Sat) (r : ℕ) (f : Field) → r ≤ about.rows → Allows (Rule about) slots id me (word_at r f) (λ n. n) (word_loaded (step slots (word_at r f) 0 0 maybe.none) me)
-reads about slots id me r f low s k wide at small =
+pub reads : (about : About) (slots id : ℕ) (me : Sat) (r : ℕ) (f : Field) → r ≤ about.rows → me.0.role ≡ Passing → Allows (Rule about) slots id me (word_at r f) (λ n. n) (word_loaded (step slots (word_at r f) 0 0 maybe.none) me)
+reads about slots id me r f low passing s k wide at small =
     let v : View = me.0 in let found : ℕ = get_or s.words (word_at r f) 0 in let is : found ≡ field f (row k.m.rows r) = cell_is k.memory r f low in
     let w : View = read v r f found in let seen = k.history.seen id v at in let known = k.known id v at in
+    let led : AllLinked k.g.linked (led_to v r f found) = led_in k.m k.g v r f found k.table (k.reached id v at) (sym is) in let room = k.memory.room in let rows_are = (k.about_known id v at (ap is_live passing)).0 in
     let worn : KnowsWorn (state_of k.m k.g) w = λ saw. ⊎_elim (k.worn id v at) (last_found about s.words s.views k r f found (sym is)) (or_cases v.worn (is_last f found) saw) in
     let facts : KnowsRows k.m.rows w = cond_both (nat_lt 0 (times r v.holds)) (fact r f found ∷ v.knows) v.knows (λ l. AreFacts k.m.rows v.holds l) (λ held. (sym is, grind (arith, nat_tests), known)) (λ not. known) in (
       w,
       keeps,
       tt,
       seeing about s.words s.views k (word_at r f) id v w at facts
-          (in_append k.g.linked v.reached (led_to v r f found) (k.reached id v at) (led_in k.m k.g v r f found k.table (k.reached id v at) (sym is))) (k.ways id v at) (k.present id v at)
+          (in_append k.g.linked v.reached (led_to v r f found) (k.reached id v at) led) (k.ways id v at) (k.present id v at)
           (k.notes id v at) worn (k.lasting id v at) (begins_itself v.seen) seen.0 seen.1,
-      λ r' f' same. let t = one_word r r' f f' same in ((λ i. (read v (t.0 i) (t.1 i) found, me.1)), λ x there. is ∙ (λ i. field (t.1 i) (row k.m.rows (t.0 i))) ∙ known_is k.m.rows v.holds v.knows r' f' x known there),
+      λ r' f' same. let t = one_word r r' f f' same in ((λ i. (read v (t.0 i) (t.1 i) found, me.1)), λ x there. is ∙ (λ i. field (t.1 i) (row k.m.rows (t.0 i))) ∙ known_is k.m.rows v.holds v.knows r' f' x known there, λ c there. let far = (k.apart.low c (in_times c k.g.linked (in_of k.g.linked (led_to v r f found) c led (subst (λ (l : List ℕ). 0 < times c l) (λ i. led_to v (sym t.0 i) (sym t.1 i) found) there)))).1 in omega (arith, far, room, rows_are)),
     )
 
 -- `store_own`

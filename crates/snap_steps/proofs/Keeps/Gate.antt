@@ -38,7 +38,7 @@ enters about slots id me found new said even up idle unused passing s k wide at 
       w,
       keeps,
       tt,
-      turning about s.words s.views k id v at (set s.words 1 new) (record k.m { gate = new }) v.notes v.handed v.epochs (Writing false false) (v.uses + 1) v.present (gate_set k.memory new) refl refl (k.notes id v at) (omega (arith, o)) (omega (arith, q)) refl (λ x. omega (arith, k.locked.writing id v at x, a)) ((k.present id v at).0, λ z. absurd (omega (arith, z)))
+      turning about s.words s.views k id v at (set s.words 1 new) (record k.m { gate = new }) v.notes v.handed v.epochs (Writing false false) (v.uses + 1) v.present [] (gate_set k.memory new) refl refl (k.notes id v at) (omega (arith, o)) (omega (arith, q)) refl (λ x. omega (arith, k.locked.writing id v at x, a)) ((k.present id v at).0, λ z. absurd (omega (arith, z)))
           (gated_moves s.views id v w at k.m.gate k.m.left new k.m.left g (omega arith) (omega arith) (λ some. absurd (omega (arith, quiets_le (set s.views id w)))) (nobody_closes new (set s.views id w) none_closing))
           (used_moves s.views id v w at k.m.gate k.m.epoch new k.m.epoch k.used refl refl refl (omega arith) (omega (arith, ap (λ r. length (own_number r v.who)) passing))) (omega arith) (λ z. omega arith) (λ z. absurd (omega (arith, z, d))) (λ z. absurd (omega (arith, z))),
       (refl, ((λ _. refl), (λ miss. absurd (miss hit)))),
@@ -57,7 +57,7 @@ closes about slots id me found new said even up idle unused passing s k wide at 
       w,
       keeps,
       tt,
-      turning about s.words s.views k id v at (set s.words 1 new) (record k.m { gate = new }) v.notes v.handed v.epochs (Closing new false false) (v.uses + 1) v.present (gate_set k.memory new) refl refl (k.notes id v at) (omega (arith, o)) (omega (arith, q)) refl (λ x. omega (arith, k.locked.writing id v at x, a)) ((k.present id v at).0, λ _. (k.present id v at).1 a)
+      turning about s.words s.views k id v at (set s.words 1 new) (record k.m { gate = new }) v.notes v.handed v.epochs (Closing new false false) (v.uses + 1) v.present v.copies (gate_set k.memory new) refl refl (k.notes id v at) (omega (arith, o)) (omega (arith, q)) refl (λ x. omega (arith, k.locked.writing id v at x, a)) ((k.present id v at).0, λ _. (k.present id v at).1 a)
           (gated_moves s.views id v w at k.m.gate k.m.left new k.m.left g (omega arith) (omega arith) (λ some. absurd (omega (arith, quiets_le s.views, total-set (λ u. is_quiet u.stage) s.views id v w at)))
           (each_set s.views id w (nobody_closes new s.views none_before) (λ u p. p) refl))
           (used_moves s.views id v w at k.m.gate k.m.epoch new k.m.epoch k.used refl refl refl (omega arith) (omega (arith, ap (λ r. length (own_number r v.who)) passing))) (omega arith) (λ z. omega arith) (λ z. absurd (omega (arith, z, d))) (λ z. absurd (omega (arith, z))),
@@ -75,7 +75,7 @@ leaves about slots id me made counted writing settled free s k wide at small =
       w,
       keeps,
       tt,
-      turning about s.words s.views k id v at (set s.words 2 new) (record k.m { left = new }) v.notes v.handed v.epochs Idle v.uses [] (left_set k.memory new) refl refl (k.notes id v at) (omega (arith, o)) (omega (arith, q)) refl (λ x. subst (λ (h : List ℕ). times x h ≤ 0) (sym free) (omega arith)) (tt, λ _. refl)
+      turning about s.words s.views k id v at (set s.words 2 new) (record k.m { left = new }) v.notes v.handed v.epochs Idle v.uses [] v.copies (left_set k.memory new) refl refl (k.notes id v at) (omega (arith, o)) (omega (arith, q)) refl (λ x. subst (λ (h : List ℕ). times x h ≤ 0) (sym free) (omega arith)) (tt, λ _. refl)
           (gated_moves s.views id v w at k.m.gate k.m.left k.m.gate new g (omega arith) (omega arith) (λ some. absurd (omega (arith, g.quiet (omega (arith, total-set (λ u. is_quiet u.stage) s.views id v w at)))))
           (each_stays s.views id v w at (λ u. IsAt k.m.gate u.stage) g.at (λ p. tt)))
           (used_moves s.views id v w at k.m.gate k.m.epoch k.m.gate k.m.epoch k.used refl refl refl (omega arith) (k.used.few id v at).0) (omega arith) (λ z. omega arith) (λ _. refl) (λ z. absurd (omega (arith, z))),
@@ -94,7 +94,7 @@ opens about slots id me gate quiet cut closing s k wide at small =
       w,
       keeps,
       tt,
-      turning about s.words s.views k id v at (set s.words 1 new) (record k.m { gate = new }) v.notes v.handed v.epochs Idle v.uses [] (gate_set k.memory new) refl refl (k.notes id v at) (omega (arith, o)) (omega (arith, q)) refl (λ x. omega (arith, k.locked.writing id v at x, a)) (tt, λ _. refl)
+      turning about s.words s.views k id v at (set s.words 1 new) (record k.m { gate = new }) v.notes v.handed v.epochs Idle v.uses [] v.copies (gate_set k.memory new) refl refl (k.notes id v at) (omega (arith, o)) (omega (arith, q)) refl (λ x. omega (arith, k.locked.writing id v at x, a)) (tt, λ _. refl)
           (gated_moves s.views id v w at k.m.gate k.m.left new k.m.left g (omega arith) (omega arith) (λ some. absurd (omega (arith, quiets_le (set s.views id w)))) (nobody_closes new (set s.views id w) none_closing))
           (used_moves s.views id v w at k.m.gate k.m.epoch new k.m.epoch k.used refl refl refl (omega arith) (k.used.few id v at).0) (omega arith) (λ z. omega arith) (λ _. refl) (λ z. absurd (omega (arith, z))),
       refl,

@@ -55,7 +55,7 @@ loads_left about slots id me s k wide at small =
       w,
       keeps,
       tt,
-      turning about s.words s.views k id v at (set s.words 2 r) k.m (v.notes ++ Left r ∷ []) v.handed v.epochs (after_left v.stage r) v.uses v.present (loaded k.memory 2) refl refl (header_more k.m.next k.m.epoch v (Left r) (k.notes id v at) tt) (omega (arith, same.3)) (omega (arith, same.4)) refl (λ x. omega (arith, k.locked.writing id v at x, same.0)) ((k.present id v at).0, λ z. (k.present id v at).1 (omega (arith, same.0, z)))
+      turning about s.words s.views k id v at (set s.words 2 r) k.m (v.notes ++ Left r ∷ []) v.handed v.epochs (after_left v.stage r) v.uses v.present v.copies (loaded k.memory 2) refl refl (header_more k.m.next k.m.epoch v (Left r) (k.notes id v at) tt) (omega (arith, same.3)) (omega (arith, same.4)) refl (λ x. omega (arith, k.locked.writing id v at x, same.0)) ((k.present id v at).0, λ z. (k.present id v at).1 (omega (arith, same.0, z)))
           (gated_moves s.views id v w at k.m.gate k.m.left k.m.gate k.m.left g (omega (arith, same.0, same.1)) (omega (arith, same.1, one)) (λ some. omega (arith, none_writes some, same.0))
           (each_stays s.views id v w at (λ u. IsAt k.m.gate u.stage) g.at (λ p. after_left_at k.m.gate v.stage r p)))
           (used_moves s.views id v w at k.m.gate k.m.epoch k.m.gate k.m.epoch k.used refl refl refl (omega (arith, same.2)) (k.used.few id v at).0) (omega arith) (λ z. omega (arith, same.0)) (λ z. ap (λ st. after_left st r) (k.acting id v at z).0) (left_cut v.stage r),

@@ -42,16 +42,15 @@ use Rattle.snap_steps.specs.declared.view.View.{View}
 use Rattle.snap_steps.specs.declared.view.Role.TheVariants.{Passing}
 use Rattle.snap_steps.specs.declared.view.Stage.TheVariants.{Writing}
 use Rattle.snap_steps.specs.declared.rule.About.{About}
-use Rattle.snap_steps.proofs.Totals.{term_le, one_same, one_other, removed_same, removed_other}
+use Rattle.snap_steps.proofs.Totals.{term_le}
 use Rattle.snap_steps.proofs.Histories.{legal_more}
-use Rattle.snap_steps.proofs.Cells.{changed, cell_set, row_same, row_other, field_same, field_other}
+use Rattle.snap_steps.proofs.Cells.{changed, cell_set, row_same, field_same, field_other}
 use Rattle.snap_steps.proofs.States.{sets}
 use Rattle.snap_steps.proofs.Tables.{Moves, none_changing, in_times, all_are}
 use Rattle.snap_steps.proofs.EachView.{none_total, each_others}
 use Rattle.snap_steps.proofs.Parts.Locks.{others_apart, locks_stay}
-use Rattle.snap_steps.proofs.Knowing.{facts_elsewhere, facts_left, facts_dropped, known_is, facts_but}
-use Rattle.snap_steps.proofs.Parts.Drawn.{not_theirs}
-use Rattle.snap_steps.proofs.Parts.Apart.{none_own}
+use Rattle.snap_steps.proofs.Knowing.{facts_elsewhere, facts_left, known_is}
+use Rattle.snap_steps.proofs.Parts.Linked.{apart_linked}
 use Rattle.snap_steps.proofs.Classes.Entering.{entering, some_write, born_live}
 use Rattle.snap_steps.proofs.Classes.Turning.{Rule}
 use Rattle.snap_steps.specs.Steps.Told.{Sat}
@@ -63,11 +62,11 @@ use Rattle.snap_rule.specs.Kinds.Entries as entry_kinds
 use Rattle.snap_rule.specs.TreeChanges as tree_changes
 use Rattle.snap_steps.specs.Rule.History.{whole}
 
-no_lock : (d : Side) → link_field d ≢ Lock
+pub no_lock : (d : Side) → link_field d ≢ Lock
 no_lock sides.Left = λ e. cc
 no_lock sides.Right = λ e. cc
 
-with_link : (s : Table) (p : ℕ) (d : Side) (x : ℕ) → with_word s p (link_field d) x ≡ record s { link = updates.relink s.link p d x }
+pub with_link : (s : Table) (p : ℕ) (d : Side) (x : ℕ) → with_word s p (link_field d) x ≡ record s { link = updates.relink s.link p d x }
 with_link s p sides.Left x = refl
 with_link s p sides.Right x = refl
 
@@ -147,8 +146,6 @@ links_leaf about slots id me r key value parent f low small_key passing writing 
     let moves : Moves st s' away = subst (λ (z : Table). Moves st z away) (sym path) (leaf_evolves st parent d r e may, leaf_keeps st k.table parent d r e may, λ n q. leaf_apart st n parent d r e q.0 q.1) in
     let absent : told k.g.history key ≡ None = sym (k.table.tree.tells key) ∙ absent_below st key parent d k.table way.faces under.stands (none_pending d) none in
     let is_times : 0 < parent → 0 < times parent k.g.linked = λ l. in_times parent k.g.linked (linked_parent (λ z. omega arith)) in
-    let zeros : (u : View) (j : ℕ) → get_elem? s.views j ≡ some u → times 0 u.drawn ≡ 0 = λ u j there. omega (arith, k.drawn.none_zero, term_le (λ y. times 0 y.drawn) s.views j u there) in
-    let not_own : (u : View) (j : ℕ) → get_elem? s.views j ≡ some u → times parent u.own ≡ 0 = λ u j there. none_own k.g.linked u.own u.drawn parent 0 (k.apart.own j u there) is_times (zeros u j there) in
     let seen = k.history.seen id v at in let mine = (k.history.mine id v at).0 (ap is_counted passing) in (
       w,
       keeps,
@@ -157,19 +154,7 @@ links_leaf about slots id me r key value parent f low small_key passing writing 
           (locks_stay s.views id v at k.m.rows parent x w k.locked (field_other Lock f r (row k.m.rows parent) (λ z. is_lock (sym z))) near refl refl (sym (ap in_write writing)))
           (each_others s.views id v at w (λ j u ne there. facts_elsewhere k.m.rows parent x u.holds u.holds u.knows (k.known j u there) (others_apart s.views id v at k.m.rows parent k.locked place.held j u ne there) (λ y. omega arith))
           (ap (field f) (row_same k.m.rows parent x near) ∙ field_same f r (row k.m.rows parent), place.held, facts_left k.m.rows parent f r v.holds v.knows near known))
-          record {
-            low = λ y l. dite (ℕ_discrete y r) (λ q. (omega arith, omega arith)) (λ ne. let t = k.apart.low y (omega (arith, l, one_other y r ne)) in (t.0, t.1));
-            own = each_others s.views id v at w
-                (λ j u ne there y l. let q = k.apart.own j u there y l in
-                let other : y ≢ r = λ same. omega (arith, l, ap (λ (i : ℕ). times i u.own) same, not_theirs s.views id v u at j ne there r k.drawn own.1 (k.apart.own j u there r)) in (omega (arith, q.0, one_other y r other), q.1))
-                (λ y l. let other : y ≢ r = λ same. omega (arith, l, ap (λ (i : ℕ). times i (removed r v.own)) same, removed_same r v.own) in
-                let q = k.apart.own id v at y (omega (arith, l, removed_other r y v.own other)) in (omega (arith, q.0, one_other y r other), q.1));
-            fresh = λ y above z. let other : y ≢ r = λ same. omega (arith, z, one_same y r same) in let none_linked : times y k.g.linked ≡ 0 = omega (arith, z, one_other y r other) in
-                let away : y ≢ parent = λ same. omega (arith, none_linked, ap (λ (i : ℕ). times i k.g.linked) same, is_times (omega arith)) in
-                let q = row_other k.m.rows parent y x away in let h = k.apart.fresh y above none_linked in (ap (λ (o : Row). o.lock) q ∙ h.0, ap (λ (o : Row). o.stamp) q ∙ h.1);
-            wrote = each_others s.views id v at w (λ j u ne there. facts_but k.m.rows parent x u.own u.wrote (not_own u j there) (k.apart.wrote j u there))
-                (facts_dropped rows' r v.own v.wrote (facts_but k.m.rows parent x v.own v.wrote (not_own v id at) wrote));
-          },
+          (apart_linked k id v w at parent r x is_times leaf.own refl refl refl),
       (k.g.history, record { goes_on = seen.0; legal = legal_more k.g.history e k.history.legal (sym absent); own = sym mine.0 }, refl),
     )
   where

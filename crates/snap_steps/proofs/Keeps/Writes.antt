@@ -122,7 +122,7 @@ counts_done about slots id me writing s k wide at small =
       w,
       keeps,
       tt,
-      turning about s.words s.views k id v at (set s.words 3 new) (record k.m { done = new }) v.notes v.handed v.epochs (Writing true true) v.uses v.present (done_set k.memory new) refl refl (k.notes id v at) (omega (arith, o)) (omega (arith, q)) refl (λ x. omega (arith, k.locked.writing id v at x, a)) ((k.present id v at).0, λ z. absurd (omega (arith, z)))
+      turning about s.words s.views k id v at (set s.words 3 new) (record k.m { done = new }) v.notes v.handed v.epochs (Writing true true) v.uses v.present v.copies (done_set k.memory new) refl refl (k.notes id v at) (omega (arith, o)) (omega (arith, q)) refl (λ x. omega (arith, k.locked.writing id v at x, a)) ((k.present id v at).0, λ z. absurd (omega (arith, z)))
           (gated_moves s.views id v w at k.m.gate k.m.left k.m.gate k.m.left g (omega arith) (omega (arith, g.one)) (λ some. absurd (omega (arith, g.quiet (omega (arith, total-set (λ u. is_quiet u.stage) s.views id v w at)))))
           (each_stays s.views id v w at (λ u. IsAt k.m.gate u.stage) g.at (λ p. tt)))
           (used_moves s.views id v w at k.m.gate k.m.epoch k.m.gate k.m.epoch k.used refl refl refl (omega (arith, c)) (k.used.few id v at).0) (omega arith) (λ z. omega (arith, a)) (λ z. absurd (omega (arith, a, ap in_write (k.acting id v at z).0))) (λ z. absurd (omega (arith, z))),

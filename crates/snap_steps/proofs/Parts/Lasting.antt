@@ -1,10 +1,11 @@
 -- Words that change no more, once the table has evolved.
-use Rattle.std.proofs.Common.{◌≡◌, ◌≢◌, ◌⊎◌, inl, inr, ℕ, List, [], ◌∷◌, ap, ◌∙◌, sym, refl, arith}
+use Rattle.std.proofs.Common.{◌≡◌, ◌≢◌, ◌⊎◌, inl, inr, ℕ, List, [], ◌∷◌, ap, ◌∙◌, sym, subst, refl, arith}
 use Rattle.snap_rule.specs.Evolves.{Evolves, SameRow}
 use Rattle.snap_rule.specs.State.{State as Table, In, IsShared, Beside}
 use Rattle.snap_stamp.specs.declared.layout.Field.{Field}
 use Rattle.snap_stamp.specs.declared.layout.Field.TheVariants.{Key, Birth, Stamp, Lock, Height, Left, Right, Value}
 use Rattle.snap_steps.specs.Each.{Each}
+use Rattle.snap_steps.specs.Facts.{IsKnown, fact}
 use Rattle.snap_steps.specs.Memory.{Memory, field, row}
 use Rattle.snap_steps.specs.Rule.Lasting.{word_of, IsLasting, AreLasting}
 use Rattle.snap_steps.specs.States.{state_of}
@@ -58,3 +59,9 @@ word_is m g r Height = refl
 word_is m g r Left = refl
 word_is m g r Right = refl
 word_is m g r Value = refl
+
+-- what a pass knows for good
+pub lasting_is : (s : Table) (l : List Fact) (r : ℕ) (f : Field) (x : ℕ) → AreLasting s l → IsKnown l r f x → IsLasting s (fact r f x)
+lasting_is s [] r f x h is = absurd is
+lasting_is s (y ∷ ys) r f x h (inl e) = subst (IsLasting s) (λ i. fact (e.0 i) (e.1 i) (e.2 i)) h.0
+lasting_is s (y ∷ ys) r f x h (inr is) = lasting_is s ys r f x h.1 is

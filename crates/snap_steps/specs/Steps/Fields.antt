@@ -1,11 +1,11 @@
 -- Loads of a row's words, and stores in rows that aren't linked.
-use Rattle.std.specs.Prelude.{Bool, true, false, ℕ, ◌==◌, nat_lt, cond, List, [], ◌∷◌, ◌+◌, ◌++◌, ◌≡◌, nat_le, ◌||◌}
+use Rattle.std.specs.Prelude.{◌≤◌, Bool, true, false, ℕ, ◌==◌, nat_lt, cond, List, [], ◌∷◌, ◌+◌, ◌++◌, ◌≡◌, nat_le, ◌||◌}
 use Rattle.atomic_table.specs.Table.{Step}
 use Rattle.snap_stamp.specs.Layout.{word_at}
 use Rattle.snap_stamp.specs.declared.layout.Field.{Field}
 use Rattle.snap_stamp.specs.declared.layout.Field.TheVariants.{Key, Birth, Stamp, Lock, Height, Left, Right, Value}
 use Rattle.snap_steps.specs.declared.view.View.{View}
-use Rattle.snap_steps.specs.Counting.{times}
+use Rattle.snap_steps.specs.Counting.{times, Among}
 use Rattle.snap_steps.specs.Facts.{same_field, fact, forgotten, IsKnown}
 use Rattle.snap_steps.specs.Steps.Told.{Sat, Has}
 use Rattle.snap_stamp.specs.Stamps.{last_count, count_of}
@@ -44,7 +44,7 @@ abbrev pub own_stored : View → ℕ → Field → ℕ → View
 own_stored v r f n = record v { steps = v.steps + 1; wrote = fact r f n ∷ forgotten v.wrote r f }
 
 abbrev pub word_loaded : Step (Unit {0}) → Sat → ℕ → Sat → Type 0
-word_loaded st m r n = (row : ℕ) (field : Field) → st.word ≡ word_at row field → Has m n (read m.0 row field r) × ((x : ℕ) → IsKnown m.0.knows row field x → r ≡ x)
+word_loaded st m r n = (row : ℕ) (field : Field) → st.word ≡ word_at row field → Has m n (read m.0 row field r) × ((x : ℕ) → IsKnown m.0.knows row field x → r ≡ x) × ((c : ℕ) → Among c (led_to m.0 row field r) → c ≤ m.0.rows)
 
 abbrev pub stored_own : ℕ → Field → Step (Unit {0}) → Sat → ℕ → Sat → Type 0
 stored_own row field st m r n = Has m n (own_stored m.0 row field st.first)

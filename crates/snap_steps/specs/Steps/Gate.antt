@@ -16,7 +16,7 @@ use Rattle.snap_steps.specs.Clones.{parts_of, IsCloneOf, ArePlaced}
 use Rattle.snap_rule.specs.Tree.{Tree}
 
 abbrev pub entered : View → View
-entered v = record v { stage = Writing false false; uses = v.uses + 1 }
+entered v = record v { stage = Writing false false; uses = v.uses + 1; copies = [] }
 
 abbrev pub closed : View → ℕ → View
 closed v gate = record v { stage = Closing gate false false; uses = v.uses + 1 }

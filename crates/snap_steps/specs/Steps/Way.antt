@@ -21,7 +21,7 @@ use Rattle.snap_stamp.specs.declared.side.Side.TheVariants as sides
 
 -- a reader sets out for a key from row 0
 abbrev pub set_out_for : View → List Entry → ℕ → View
-set_out_for v seen key = record v { seen = seen; reads = On key (Standing 0 0 sides.Right); confirmed = [] }
+set_out_for v seen key = record v { seen = seen; reads = On key (Standing 0 0 sides.Right); confirmed = []; place = Resting }
 
 -- where the reader is once it has loaded its next word: at row 0 again where a word is another than it must be
 abbrev pub next_point : ℕ → Point → ℕ → Reading
@@ -85,9 +85,24 @@ abbrev pub now_confirmed : Reading → ℕ → List ℕ → List ℕ
 now_confirmed Resting x l = []
 now_confirmed (On k t) x l = confirmed_by t x l
 
+-- the row from which the reader last went on
+abbrev pub place_by : ℕ → Point → Reading → Reading
+place_by k (Standing n v d) p = On k (Standing n v d)
+place_by k (NoLink n v d) p = p
+place_by k (Linked n v d c) p = p
+place_by k (Stamped n v d c w) p = p
+place_by k (Relinked n v c w) p = p
+place_by k (Confirmed c w) p = p
+place_by k ConfirmedNone p = p
+place_by k (Matched c) p = p
+
+abbrev pub goes_from : Reading → Reading → Reading
+goes_from Resting p = p
+goes_from (On k t) p = place_by k t p
+
 -- the reader loaded its next word: where that is a link, the pass has reached the row to which it leads
 abbrev pub read_on : View → ℕ → View
-read_on v x = record v { steps = v.steps + 1; reads = goes_on v.reads x; confirmed = now_confirmed v.reads x v.confirmed; reached = v.reached ++ comes_to v.reads x }
+read_on v x = record v { steps = v.steps + 1; reads = goes_on v.reads x; confirmed = now_confirmed v.reads x v.confirmed; place = goes_from v.reads v.place; reached = v.reached ++ comes_to v.reads x }
 
 -- the word that the reader loads next, where its answer comes later
 abbrev pub IsNext : Point → ℕ → Field → Type 0

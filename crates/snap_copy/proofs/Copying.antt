@@ -1,0 +1,245 @@
+-- The child of a held row, and the copy that takes its place.
+use Rattle.std.proofs.Common.{◌≡◌, ◌≢◌, ◌⊎◌, inl, inr, ℕ, ◌+◌, ◌<◌, ◌≤◌, Bool, true, false, cond, nat_lt, lt-ltb, List, [], ◌∷◌, ◌++◌, ◌==◌, ◌&&◌, eq-eqb, refl, sym, ap, ◌∙◌, subst, arith}
+use Rattle.snap_copy.specs.Filling.{Keeps, Finds, filled, CopiesWord, Fills}
+use Rattle.snap_copy.specs.Owning.{IsOwn, with_copy, IsCopied, Lacks}
+use Rattle.snap_copy.proofs.Keeping.{keeps_on, read_keeps, learnt_keeps, epoch_keeps, stored_keeps, drew_keeps, older_still, above_still}
+use Rattle.snap_rule.specs.State.{In}
+use Rattle.snap_search.specs.Walk.{SeesMore}
+use Rattle.snap_search.specs.Work.{worked, Works}
+use Rattle.snap_search.proofs.Walking.{times-append}
+use Rattle.snap_search.proofs.Working.{works_on, word_works, epoch_works, epoch_now, notes_on, no_notes}
+use Rattle.snap_stamp.specs.declared.layout.Field.{Field}
+use Rattle.snap_stamp.specs.declared.layout.Field.TheVariants.{Key, Birth, Height, Left, Right, Value}
+use Rattle.snap_stamp.specs.declared.side.Side.{Side}
+use Rattle.snap_steps.specs.Counting.{times, removed, Among}
+use Rattle.snap_steps.specs.Drawing.{HasDrawn, FoundFull, notes_of}
+use Rattle.snap_steps.specs.Facts.{IsKnown, IsBorn, forgotten, same_field}
+use Rattle.snap_steps.specs.Histories.{Extends}
+use Rattle.snap_steps.specs.Seen.{Known, Becomes}
+use Rattle.snap_steps.specs.States.{link_field}
+use Rattle.snap_steps.specs.Steps.Births.{learnt, born}
+use Rattle.snap_steps.specs.Steps.Copies.{IsOlder, IsAbove, HasWord, copied}
+use Rattle.snap_steps.specs.Steps.Draws.{drew}
+use Rattle.snap_steps.specs.Steps.Fields.{read, led_to, own_stored}
+use Rattle.snap_steps.specs.Steps.Header.{epoch_noted, all_noted}
+use Rattle.snap_steps.specs.declared.view.Fact.{Fact}
+use Rattle.snap_steps.specs.declared.view.Stage.TheVariants.{Writing}
+use Rattle.snap_steps.specs.declared.view.View.{View}
+use Rattle.snap_steps.specs.declared.view.WordNote.{WordNote}
+use Rattle.snap_steps.specs.declared.view.WordNote.TheVariants.{Next, Epoch}
+use Rattle.snap_stamp.specs.declared.side.Side.TheVariants as sides
+
+abbrev known_as : Known → View → Known
+known_as k v = record { table = k.table; view = v }
+
+abbrev KeptBy : Known → Known → Type 0
+KeptBy old new = Keeps old.view new.view
+
+kept_by : (old new : Known) (w : View) → Becomes old new w → Keeps old.view w → Keeps old.view new.view
+kept_by old new w e k = subst (λ (x : Known). Keeps old.view x.view) (sym e) k
+
+filled_on : (old mid new : Known) → mid ≡ filled old mid.view → new ≡ filled mid new.view → new ≡ filled old new.view
+filled_on old mid new a b = b ∙ ap (λ (k : Known). filled k new.view) a
+
+-- a store of one word leaves what was stored in the others
+forgotten_keeps : (l : List Fact) (r : ℕ) (f g : Field) (y : ℕ) → same_field g f ≡ false → IsKnown l r g y → IsKnown (forgotten l r f) r g y
+forgotten_keeps [] r f g y ne h = h
+forgotten_keeps (x ∷ xs) r f g y ne h = go (x.row == r) refl (same_field x.field f) refl h (λ k. forgotten_keeps xs r f g y ne k)
+  where
+    go : (a : Bool) → (x.row == r) ≡ a → (b : Bool) → same_field x.field f ≡ b → ((x.row ≡ r) × (x.field ≡ g) × (x.word ≡ y)) ⊎ IsKnown xs r g y → (IsKnown xs r g y → IsKnown (forgotten xs r f) r g y) → IsKnown (cond (a && b) (forgotten xs r f) (x ∷ forgotten xs r f)) r g y
+    go true ea true eb (inl e) on = let q : true ≡ false = sym eb ∙ ap (λ (z : Field). same_field z f) e.1 ∙ ne in absurd (cc)
+    go true ea true eb (inr k) on = on k
+    go true ea false eb (inl e) on = inl e
+    go true ea false eb (inr k) on = inr (on k)
+    go false ea b eb (inl e) on = inl e
+    go false ea b eb (inr k) on = inr (on k)
+
+wrote_still : (old new : Known) (r : ℕ) (f : Field) (x : ℕ) (g : Field) (y : ℕ) → same_field g f ≡ false → Becomes old new (own_stored old.view r f x) → IsKnown old.view.wrote r g y → IsKnown new.view.wrote r g y
+wrote_still old new r f x g y ne e h = subst (λ (k : Known). IsKnown k.view.wrote r g y) (sym e) (inr (forgotten_keeps old.view.wrote r f g y ne h))
+
+one_of : (n : ℕ) → Among n (n ∷ [])
+one_of n = let one : times n (n ∷ []) ≡ 1 = ap (λ (b : Bool). cond b 1 0 + 0) (eq-eqb n n refl) in omega (arith, one)
+
+both_yes : (a b : Bool) (l m : List ℕ) → a ≡ true → b ≡ true → cond a (cond b l m) [] ≡ l
+both_yes a b l m ea eb = ap (λ (x : Bool). cond x (cond b l m) []) ea ∙ ap (λ (x : Bool). cond x l m) eb
+
+last_yes : (a b c : Bool) (l : List ℕ) → a ≡ true → c ≡ true → cond a (cond b l (cond c l [])) [] ≡ l
+last_yes a true c l ea ec = ap (λ (x : Bool). cond x l []) ea
+last_yes a false c l ea ec = ap (λ (x : Bool). cond x (cond c l []) []) ea ∙ ap (λ (x : Bool). cond x l []) ec
+
+-- a link below the held row leads to its child
+leads : (v : View) (key parent n : ℕ) (d : Side) (child : ℕ) → IsAbove v key parent d child → 0 < n → Among n (led_to v parent (link_field d) n)
+leads v key parent n d child h pos = go d h.live
+  where
+    yes : nat_lt 0 n ≡ true
+    yes = lt-ltb 0 n pos
+
+    go : (e : Side) → ((parent ≡ 0) × (e ≡ sides.Right)) ⊎ ((Among parent v.reached) × IsBorn v parent) → Among n (led_to v parent (link_field e) n)
+    go sides.Left (inl z) = absurd (cc)
+    go sides.Left (inr l) = subst (Among n) (sym (both_yes (nat_lt 0 n) (nat_lt 0 (times parent v.reached)) (n ∷ []) (cond (parent == 0) [] []) yes (lt-ltb 0 (times parent v.reached) l.0))) (one_of n)
+    go sides.Right (inl z) = subst (Among n) (sym (last_yes (nat_lt 0 n) (nat_lt 0 (times parent v.reached)) (parent == 0) (n ∷ []) yes (eq-eqb parent 0 z.0))) (one_of n)
+    go sides.Right (inr l) = subst (Among n) (sym (both_yes (nat_lt 0 n) (nat_lt 0 (times parent v.reached)) (n ∷ []) (cond (parent == 0) (n ∷ []) []) yes (lt-ltb 0 (times parent v.reached) l.0))) (one_of n)
+
+pub low_child : (v : View) (rows key parent word : ℕ) (d : Side) (f : Field) (child : ℕ) → child ≢ 0 → IsAbove v key parent d child → f ≡ link_field d → ((x : ℕ) → IsKnown v.knows parent f x → word ≡ x) → ((c : ℕ) → Among c (led_to v parent f word) → c ≤ rows) → word ≤ rows
+low_child v rows key parent word d f child some_row h by known led =
+    let same : word ≡ child = known child (subst (λ (g : Field). IsKnown v.knows parent g child) (sym by) h.child_is) in
+    led word (subst (λ (g : Field). Among word (led_to v parent g word)) (sym by) (leads v key parent word d child h (omega arith)))
+
+pub child_found : (rows : ℕ) (old new : Known) (key parent word c : ℕ) (d : Side) (f : Field) (child : ℕ) → child ≢ 0 → IsAbove old.view key parent d child → f ≡ link_field d → Becomes old new (read old.view parent f word) → ((x : ℕ) → IsKnown old.view.knows parent f x → word ≡ x) → word ≤ rows → c ≡ word
+    → Finds rows old new key parent d c
+child_found rows old new key parent word c d f child some_row h by e known low is =
+    let same : c ≡ child = is ∙ known child (subst (λ (g : Field). IsKnown old.view.knows parent g child) (sym by) h.child_is) in
+    let step : Becomes old new (read old.view parent (link_field d) c) = e ∙ (λ i. known_as old (read old.view parent (by i) (sym is i))) in
+    let above : IsAbove old.view key parent d c = subst (IsAbove old.view key parent d) (sym same) h in
+    let on : KeptBy old new = kept_by old new (read old.view parent (link_field d) c) step (read_keeps old.view parent (link_field d) c) in record {
+      step = step;
+      some_row = λ z. some_row (sym same ∙ z);
+      low = omega (arith, is);
+      reached = subst (λ (k : Known). Among c k.view.reached) (sym step) (omega (arith, times-append c old.view.reached (led_to old.view parent (link_field d) c), leads old.view key parent c d c above (omega arith)));
+      above = above_still old.view new.view key parent d c on above;
+    }
+
+-- one field of the copy
+pub word_copied : (old mid new : Known) (child copy x : ℕ) (f : Field) → Becomes old mid (learnt old.view child f x) → Becomes mid new (own_stored mid.view copy f x) → CopiesWord old new child copy f
+word_copied old mid new child copy x f a b =
+    let first : mid ≡ filled old mid.view = a ∙ ap (λ (k : Known). filled old k.view) (sym a) in
+    let last : new ≡ filled mid new.view = b ∙ ap (λ (k : Known). filled mid k.view) (sym b) in
+    let on = kept_by mid new (own_stored mid.view copy f x) b (stored_keeps mid.view copy f x) in record {
+      is = filled_on old mid new first last;
+      keeps = keeps_on old.view mid.view new.view (kept_by old mid (learnt old.view child f x) a (learnt_keeps old.view child f x)) on;
+      word = record { word = x; theirs = on.lasting child f x (subst (λ (k : Known). IsKnown k.view.lasting child f x) (sym a) (inl (refl, refl, refl))); ours = subst (λ (k : Known). IsKnown k.view.wrote copy f x) (sym b) (inl (refl, refl, refl)) };
+      others = λ g y ne h. wrote_still mid new copy f x g y ne b (subst (λ (k : Known). IsKnown k.view.wrote copy g y) (sym a) h);
+    }
+
+still_copied : (a b : Known) (child copy : ℕ) (f g : Field) → same_field g f ≡ false → CopiesWord a b child copy f → HasWord a.view copy child g → HasWord b.view copy child g
+still_copied a b child copy f g ne c h = record { word = h.word; theirs = c.keeps.lasting child g h.word h.theirs; ours = c.others g h.word ne h.ours }
+
+-- all fields, and the birth
+pub copy_filled : (a b c d e f g : Known) (child copy epoch : ℕ) → Among copy a.view.own → Among epoch a.view.present → CopiesWord a b child copy Key → CopiesWord b c child copy Height → CopiesWord c d child copy Left → CopiesWord d e child copy Right → CopiesWord e f child copy Value → Becomes f g (own_stored f.view copy Birth epoch) → Fills a g child copy
+copy_filled a b c d e f g child copy epoch own now s1 s2 s3 s4 s5 s6 =
+    let k6 = kept_by f g (own_stored f.view copy Birth epoch) s6 (stored_keeps f.view copy Birth epoch) in
+    let k = keeps_on a.view f.view g.view (keeps_on a.view e.view f.view (keeps_on a.view d.view e.view (keeps_on a.view c.view d.view (keeps_on a.view b.view c.view s1.keeps s2.keeps) s3.keeps) s4.keeps) s5.keeps) k6 in
+    let i5 = filled_on a e f (filled_on a d e (filled_on a c d (filled_on a b c s1.is s2.is) s3.is) s4.is) s5.is in
+    let is : g ≡ filled a g.view = filled_on a f g i5 (s6 ∙ ap (λ (x : Known). filled f x.view) (sym s6)) in
+    let end = λ (h : Field) (ne : same_field h Birth ≡ false) (q : HasWord f.view copy child h). let r : HasWord g.view copy child h = record { word = q.word; theirs = k6.lasting child h q.word q.theirs; ours = wrote_still f g copy Birth epoch h q.word ne s6 q.ours } in r in record {
+      is = is;
+      keeps = k;
+      copy_is = record {
+        own = subst (Among copy) (sym (ap (λ (x : Known). x.view.own) is)) own;
+        key = end Key refl (still_copied e f child copy Value Key refl s5 (still_copied d e child copy Right Key refl s4 (still_copied c d child copy Left Key refl s3 (still_copied b c child copy Height Key refl s2 s1.word))));
+        height = end Height refl (still_copied e f child copy Value Height refl s5 (still_copied d e child copy Right Height refl s4 (still_copied c d child copy Left Height refl s3 s2.word)));
+        left = end Left refl (still_copied e f child copy Value Left refl s5 (still_copied d e child copy Right Left refl s4 s3.word));
+        right = end Right refl (still_copied e f child copy Value Right refl s5 s4.word);
+        value = end Value refl s5.word;
+        birth = epoch;
+        is_birth = subst (λ (x : Known). IsKnown x.view.wrote copy Birth epoch) (sym s6) (inl (refl, refl, refl));
+        now = k.present epoch now;
+      };
+    }
+
+-- what the pass knows of the child once it has loaded the epoch and its birth
+pub record Looks (old new : Known) (key parent : ℕ) (d : Side) (child epoch birth : ℕ) : Type 0 where
+  pub works : Works old new (Epoch epoch ∷ [])
+  pub now : Among epoch new.view.present
+  pub known : IsKnown new.view.lasting child Birth birth
+  pub above : IsAbove new.view key parent d child
+  pub past : birth ≤ epoch
+
+born_works : (old new : Known) (r b : ℕ) → Becomes old new (born old.view r b) → Works old new []
+born_works old new r b e = record {
+  is = e ∙ ap (λ (k : Known). worked old k.view) (sym e);
+  noted = no_notes old.view new.view (ap (λ (k : Known). k.view.notes) e) (ap (λ (k : Known). k.view.handed) e) (ap (λ (k : Known). k.view.epochs) e);
+  sees = inl (ap (λ (k : Known). k.view.seen) e);
+  kept = λ n. omega (arith, ap (λ (k : Known). times n k.view.reached) e, times-append n old.view.reached (led_to old.view r Birth b));
+  lasting = λ n g y h. subst (λ (k : Known). IsKnown k.view.lasting n g y) (sym e) (inr h);
+  present = λ y h. subst (λ (k : Known). Among y k.view.present) (sym e) h;
+}
+
+pub looks : (rows : ℕ) (old a b new : Known) (key parent : ℕ) (d : Side) (child epoch birth : ℕ) → old.view.stage ≡ Writing false false → Finds rows old a key parent d child → Becomes a b (epoch_noted a.view epoch) → Becomes b new (born b.view child birth) → ((e : ℕ) → Among e b.view.present → birth ≤ e) → Looks old new key parent d child epoch birth
+looks rows old a b new key parent d child epoch birth writing f e1 e2 past =
+    let writing_a : a.view.stage ≡ Writing false false = ap (λ (k : Known). k.view.stage) f.step ∙ writing in
+    let now : Among epoch b.view.present = subst (λ (k : Known). Among epoch k.view.present) (sym e1) (epoch_now a.view.stage false false epoch a.view.present writing_a) in
+    let k1 = kept_by a b (epoch_noted a.view epoch) e1 (epoch_keeps a.view epoch) in let k2 = kept_by b new (born b.view child birth) e2 (learnt_keeps b.view child Birth birth) in record {
+      works = works_on old a new [] (Epoch epoch ∷ []) (word_works old a parent (link_field d) child f.step) (works_on a b new (Epoch epoch ∷ []) [] (epoch_works a b epoch e1) (born_works b new child birth e2));
+      now = k2.present epoch now;
+      known = subst (λ (k : Known). IsKnown k.view.lasting child Birth birth) (sym e2) (inl (refl, refl, refl));
+      above = above_still b.view new.view key parent d child k2 (above_still a.view b.view key parent d child k1 f.above);
+      past = past epoch now;
+    }
+
+pub is_own : (old new : Known) (key parent : ℕ) (d : Side) (child epoch birth : ℕ) → Looks old new key parent d child epoch birth → epoch ≤ birth → IsOwn old new parent d child
+is_own old new key parent d child epoch birth l from = let past = l.past in let is : birth ≡ epoch = omega arith in record {
+  epoch = epoch;
+  works = l.works;
+  now = l.now;
+  birth = subst (IsKnown new.view.lasting child Birth) is l.known;
+  child_is = l.above.child_is;
+}
+
+pub is_older : (old new : Known) (key parent : ℕ) (d : Side) (child epoch birth : ℕ) → Looks old new key parent d child epoch birth → birth < epoch → IsOlder new.view child
+is_older old new key parent d child epoch birth l less = record { birth = birth; is_birth = l.known; epoch = epoch; now = l.now; older = less }
+
+last_full : (rows : ℕ) (ns : List ℕ) → In (Next rows) (notes_of (ns ++ rows ∷ []))
+last_full rows [] = inl refl
+last_full rows (n ∷ ns) = inr (last_full rows ns)
+
+pub lacks : (rows : ℕ) (old mid new : Known) (key parent : ℕ) (d : Side) (child epoch birth : ℕ) → Looks old mid key parent d child epoch birth → birth < epoch → FoundFull rows mid new → Lacks rows old new parent d
+lacks rows old mid new key parent d child epoch birth l less full =
+    let e = full.2 in let more : List WordNote = notes_of (full.0 ++ rows ∷ []) in
+    let after : Works mid new more = record {
+      is = e ∙ ap (λ (k : Known). worked mid k.view) (sym e);
+      noted = record { notes = ap (λ (k : Known). k.view.notes) e; handed = ap (λ (k : Known). k.view.handed) e; epochs = ap (λ (k : Known). k.view.epochs) e };
+      sees = inl (ap (λ (k : Known). k.view.seen) e);
+      kept = λ r. omega (arith, ap (λ (k : Known). times r k.view.reached) e);
+      lasting = λ n f x h. subst (λ (k : Known). IsKnown k.view.lasting n f x) (sym e) h;
+      present = λ x h. subst (λ (k : Known). Among x k.view.present) (sym e) h;
+    } in record {
+      child = child;
+      older = record { birth = birth; is_birth = after.lasting child Birth birth l.known; epoch = epoch; now = after.present epoch l.now; older = less };
+      child_is = subst (λ (k : Known). IsKnown k.view.knows parent (link_field d) child) (sym e) l.above.child_is;
+      more = Epoch epoch ∷ more;
+      works = works_on old mid new (Epoch epoch ∷ []) more l.works after;
+      full = inr (last_full rows full.0);
+    }
+
+with_copy_on : (old mid new : Known) → mid ≡ with_copy old mid.view → new ≡ with_copy mid new.view → new ≡ with_copy old new.view
+with_copy_on old mid new a b = b ∙ ap (λ (k : Known). with_copy k new.view) a
+
+-- a row was drawn, filled and linked in the child's place
+pub is_copied : (rows : ℕ) (old a b c new : Known) (key parent : ℕ) (d : Side) (child epoch birth copy : ℕ) → Looks old a key parent d child epoch birth → birth < epoch → HasDrawn rows a b copy → Fills b c child copy → Becomes c new (copied c.view key parent (link_field d) copy) → IsCopied old new key parent d copy
+is_copied rows old a b c new key parent d child epoch birth copy l less drawn f e =
+    let draw : Becomes a b (drew (all_noted a.view (notes_of drawn.0)) copy) = drawn.3 in
+    let kb = kept_by a b (drew (all_noted a.view (notes_of drawn.0)) copy) draw (drew_keeps a.view (notes_of drawn.0) copy) in
+    let first : a ≡ with_copy old a.view = l.works.is ∙ ap (λ (k : Known). with_copy old k.view) (sym l.works.is) in
+    let second : b ≡ with_copy a b.view = draw ∙ ap (λ (k : Known). with_copy a k.view) (sym draw) in
+    let third : c ≡ with_copy b c.view = f.is ∙ ap (λ (k : Known). with_copy b k.view) (sym f.is) in
+    let last : new ≡ with_copy c new.view = e ∙ ap (λ (k : Known). with_copy c k.view) (sym e) in
+    let older_c : IsOlder c.view child = older_still b.view c.view child f.keeps (older_still a.view b.view child kb (is_older old a key parent d child epoch birth l less)) in record {
+      is = with_copy_on old c new (with_copy_on old b c (with_copy_on old a b first second) third) last;
+      child = child;
+      older = subst (λ (k : Known). IsOlder k.view child) (sym e) (same_older c.view key parent (link_field d) copy child older_c);
+      drawn = ap (λ (k : Known). k.view.drawn) e ∙ ap (λ (k : Known). k.view.drawn) f.is ∙ ap (λ (k : Known). k.view.drawn) draw ∙ ap (λ (k : Known). k.view.drawn ++ copy ∷ []) l.works.is;
+      own = ap (λ (k : Known). k.view.own) e ∙ ap (λ (k : Known). removed copy k.view.own) f.is ∙ ap (λ (k : Known). removed copy k.view.own) draw ∙ ap (λ (k : Known). removed copy (copy ∷ k.view.own)) l.works.is;
+      more = Epoch epoch ∷ notes_of drawn.0;
+      noted = notes_on old.view a.view new.view (Epoch epoch ∷ []) (notes_of drawn.0) l.works.noted (record {
+        notes = ap (λ (k : Known). k.view.notes) e ∙ ap (λ (k : Known). k.view.notes) f.is ∙ ap (λ (k : Known). k.view.notes) draw;
+        handed = ap (λ (k : Known). k.view.handed) e ∙ ap (λ (k : Known). k.view.handed) f.is ∙ ap (λ (k : Known). k.view.handed) draw;
+        epochs = ap (λ (k : Known). k.view.epochs) e ∙ ap (λ (k : Known). k.view.epochs) f.is ∙ ap (λ (k : Known). k.view.epochs) draw;
+      });
+      sees = sees l.works.sees (ap (λ (k : Known). k.view.seen) e ∙ ap (λ (k : Known). k.view.seen) f.is ∙ ap (λ (k : Known). k.view.seen) draw);
+      kept = λ r. omega (arith, l.works.kept r, kb.reached r, f.keeps.reached r, ap (λ (k : Known). times r k.view.reached) e);
+      reached = subst (λ (k : Known). Among copy k.view.reached) (sym e) (omega (arith, one_of copy));
+      present = λ x h. subst (λ (k : Known). Among x k.view.present) (sym e) (f.keeps.present x (kb.present x (l.works.present x h)));
+      child_is = subst (λ (k : Known). IsKnown k.view.knows parent (link_field d) copy) (sym e) (inl (refl, refl, refl));
+      copies = ap (λ (k : Known). k.view.copies) e;
+    }
+  where
+    same_older : (v : View) (key parent : ℕ) (f : Field) (copy r : ℕ) → IsOlder v r → IsOlder (copied v key parent f copy) r
+    same_older v key parent f copy r h = record { birth = h.birth; is_birth = h.is_birth; epoch = h.epoch; now = h.now; older = h.older }
+
+    sees : SeesMore old.view a.view → new.view.seen ≡ a.view.seen → SeesMore old.view new.view
+    sees (inl q) s = inl (s ∙ q)
+    sees (inr x) s = inr (subst (Extends old.view) (sym s) x)
+
+pub drawn_keeps : (rows : ℕ) (old new : Known) (copy : ℕ) → HasDrawn rows old new copy → Keeps old.view new.view
+drawn_keeps rows old new copy d = kept_by old new (drew (all_noted old.view (notes_of d.0)) copy) d.3 (drew_keeps old.view (notes_of d.0) copy)

@@ -1,0 +1,73 @@
+-- What a pass keeps of what it knew, over loads and stores in its own rows.
+use Rattle.std.proofs.Common.{◌≡◌, ◌⊎◌, inl, inr, ℕ, Bool, true, false, cond, nat_lt, List, ◌∷◌, refl, sym, ◌∙◌, subst, arith}
+use Rattle.snap_copy.specs.Filling.{Keeps}
+use Rattle.snap_search.proofs.Walking.{times-append}
+use Rattle.snap_search.proofs.Working.{with_more}
+use Rattle.snap_stamp.specs.declared.layout.Field.{Field}
+use Rattle.snap_stamp.specs.declared.layout.Field.TheVariants.{Birth, Stamp}
+use Rattle.snap_stamp.specs.declared.side.Side.{Side}
+use Rattle.snap_steps.specs.Counting.{times, Among}
+use Rattle.snap_steps.specs.Facts.{IsKnown, IsBorn, fact}
+use Rattle.snap_steps.specs.Rule.Epochs.{AllAre}
+use Rattle.snap_steps.specs.Steps.Births.{learnt}
+use Rattle.snap_steps.specs.Steps.Copies.{IsOlder, IsAbove}
+use Rattle.snap_steps.specs.Steps.Draws.{drew}
+use Rattle.snap_steps.specs.Steps.Fields.{read, led_to, own_stored}
+use Rattle.snap_steps.specs.Steps.Header.{epoch_noted, all_noted}
+use Rattle.snap_steps.specs.declared.view.View.{View}
+use Rattle.snap_steps.specs.declared.view.WordNote.{WordNote}
+use Rattle.snap_stamp.specs.declared.side.Side.TheVariants as sides
+
+pub keeps_on : (u v w : View) → Keeps u v → Keeps v w → Keeps u w
+keeps_on u v w a b = record {
+  holds = b.holds ∙ a.holds;
+  place = b.place ∙ a.place;
+  copies = b.copies ∙ a.copies;
+  knows = λ r f x h. b.knows r f x (a.knows r f x h);
+  reached = λ r. omega (arith, a.reached r, b.reached r);
+  present = λ e h. b.present e (a.present e h);
+  lasting = λ r f x h. b.lasting r f x (a.lasting r f x h);
+}
+
+more_known : (v : View) (r : ℕ) (f : Field) (x q : ℕ) (g : Field) (y : ℕ) → IsKnown v.knows q g y → IsKnown (read v r f x).knows q g y
+more_known v r f x q g y h = go (nat_lt 0 (times r v.holds))
+  where
+    go : (b : Bool) → IsKnown (cond b (fact r f x ∷ v.knows) v.knows) q g y
+    go true = inr h
+    go false = h
+
+pub read_keeps : (v : View) (r : ℕ) (f : Field) (x : ℕ) → Keeps v (read v r f x)
+read_keeps v r f x = record { holds = refl; place = refl; copies = refl; knows = more_known v r f x; reached = λ n. omega (arith, times-append n v.reached (led_to v r f x)); present = λ e h. h; lasting = λ q g y h. h }
+
+pub learnt_keeps : (v : View) (r : ℕ) (f : Field) (x : ℕ) → Keeps v (learnt v r f x)
+learnt_keeps v r f x = record { holds = refl; place = refl; copies = refl; knows = more_known v r f x; reached = λ n. omega (arith, times-append n v.reached (led_to v r f x)); present = λ e h. h; lasting = λ q g y h. inr h }
+
+pub epoch_keeps : (v : View) (e : ℕ) → Keeps v (epoch_noted v e)
+epoch_keeps v e = record { holds = refl; place = refl; copies = refl; knows = λ q g y h. h; reached = λ n. omega arith; present = λ x h. with_more v.stage e x v.present h; lasting = λ q g y h. h }
+
+pub stored_keeps : (v : View) (r : ℕ) (f : Field) (x : ℕ) → Keeps v (own_stored v r f x)
+stored_keeps v r f x = record { holds = refl; place = refl; copies = refl; knows = λ q g y h. h; reached = λ n. omega arith; present = λ e h. h; lasting = λ q g y h. h }
+
+pub drew_keeps : (v : View) (l : List WordNote) (r : ℕ) → Keeps v (drew (all_noted v l) r)
+drew_keeps v l r = record { holds = refl; place = refl; copies = refl; knows = λ q g y h. h; reached = λ n. omega arith; present = λ e h. h; lasting = λ q g y h. h }
+
+pub older_still : (v w : View) (r : ℕ) → Keeps v w → IsOlder v r → IsOlder w r
+older_still v w r k h = record { birth = h.birth; is_birth = k.lasting r Birth h.birth h.is_birth; epoch = h.epoch; now = k.present h.epoch h.now; older = h.older }
+
+born_still : (v w : View) (r : ℕ) → Keeps v w → IsBorn v r → IsBorn w r
+born_still v w r k h = record { birth = h.birth; is_birth = k.knows r Birth h.birth h.is_birth; now = k.present h.birth h.now; stamp = h.stamp; is_stamp = k.knows r Stamp h.stamp h.is_stamp; unmarked = h.unmarked }
+
+pub above_still : (v w : View) (key parent : ℕ) (side : Side) (child : ℕ) → Keeps v w → IsAbove v key parent side child → IsAbove w key parent side child
+above_still v w key parent side child k h = record {
+  held = subst (Among parent) (sym k.holds) h.held;
+  stamp = h.stamp;
+  place = k.place ∙ h.place;
+  still = k.knows parent Stamp h.stamp h.still;
+  child_is = k.knows parent _ child h.child_is;
+  live = lives h.live;
+  one_key = subst (AllAre key) (sym k.copies) h.one_key;
+}
+  where
+    lives : ((parent ≡ 0) × (side ≡ sides.Right)) ⊎ ((Among parent v.reached) × IsBorn v parent) → ((parent ≡ 0) × (side ≡ sides.Right)) ⊎ ((Among parent w.reached) × IsBorn w parent)
+    lives (inl z) = inl z
+    lives (inr l) = inr (omega (arith, l.0, k.reached parent), born_still v w parent k l.1)

@@ -1,0 +1,59 @@
+-- A lazy copy: a row of the pass, filled with the words of a shared child, takes its place below the parent.
+use Rattle.std.specs.Prelude.{◌≡◌, ◌⊎◌, ℕ, ◌<◌, [], ◌∷◌}
+use Rattle.atomic_table.specs.Table.{Step}
+use Rattle.snap_rule.specs.declared.reader.Point.TheVariants.{Standing}
+use Rattle.snap_rule.specs.declared.reader.Reading.TheVariants.{On}
+use Rattle.snap_stamp.specs.Layout.{word_at}
+use Rattle.snap_stamp.specs.declared.layout.Field.{Field}
+use Rattle.snap_stamp.specs.declared.layout.Field.TheVariants.{Key, Birth, Stamp, Height, Left, Right, Value}
+use Rattle.snap_stamp.specs.declared.side.Side.{Side}
+use Rattle.snap_steps.specs.Counting.{Among, removed}
+use Rattle.snap_steps.specs.Facts.{IsKnown, IsBorn, fact, forgotten, forgotten_row}
+use Rattle.snap_steps.specs.Rule.Epochs.{AllAre}
+use Rattle.snap_steps.specs.States.{link_field}
+use Rattle.snap_steps.specs.Steps.Told.{Sat, Has}
+use Rattle.snap_steps.specs.declared.view.View.{View}
+use Rattle.snap_stamp.specs.declared.side.Side.TheVariants as sides
+
+-- the row is of an earlier epoch
+pub record IsOlder (v : View) (r : ℕ) : Type 0 where
+  pub birth : ℕ
+  pub is_birth : IsKnown v.lasting r Birth birth
+  pub epoch : ℕ
+  pub now : Among epoch v.present
+  pub older : birth < epoch
+
+-- the place that the search found for the key, at a held row: it has the stamp still, is row 0 or of this epoch, and leads to the child. No copy of this write was made for another key
+pub record IsAbove (v : View) (key parent : ℕ) (side : Side) (child : ℕ) : Type 0 where
+  pub held : Among parent v.holds
+  pub stamp : ℕ
+  pub place : v.place ≡ On key (Standing parent stamp side)
+  pub still : IsKnown v.knows parent Stamp stamp
+  pub child_is : IsKnown v.knows parent (link_field side) child
+  pub live : ((parent ≡ 0) × (side ≡ sides.Right)) ⊎ ((Among parent v.reached) × IsBorn v parent)
+  pub one_key : AllAre key v.copies
+
+-- what was stored in one field of the own row is the word of the other, which changes no more
+pub record HasWord (v : View) (copy row : ℕ) (f : Field) : Type 0 where
+  pub word : ℕ
+  pub theirs : IsKnown v.lasting row f word
+  pub ours : IsKnown v.wrote copy f word
+
+-- what was stored in the own row makes it a copy of the other in this epoch
+pub record IsCopy (v : View) (copy row : ℕ) : Type 0 where
+  pub own : Among copy v.own
+  pub key : HasWord v copy row Key
+  pub value : HasWord v copy row Value
+  pub height : HasWord v copy row Height
+  pub left : HasWord v copy row Left
+  pub right : HasWord v copy row Right
+  pub birth : ℕ
+  pub is_birth : IsKnown v.wrote copy Birth birth
+  pub now : Among birth v.present
+
+-- the copy was linked, and is reached. The copies of this write are for that key
+abbrev pub copied : View → ℕ → ℕ → Field → ℕ → View
+copied v key parent f copy = record v { own = removed copy v.own; wrote = forgotten_row v.wrote copy; knows = fact parent f copy ∷ forgotten v.knows parent f; reached = copy ∷ v.reached; copies = key ∷ [] }
+
+abbrev pub copy_linked : Step (Unit {0}) → Sat → ℕ → Sat → Type 0
+copy_linked st m r n = (key parent stamp : ℕ) (side : Side) → st.word ≡ word_at parent (link_field side) → m.0.place ≡ On key (Standing parent stamp side) → Has m n (copied m.0 key parent (link_field side) st.first)

@@ -1,0 +1,68 @@
+//! Lazy copies of rows of earlier epochs.
+ghost use Rattle.std.specs.Prelude.{◌≡◌, ◌≢◌, ◌≤◌, false};
+ghost use Rattle.snap_rule.specs.declared.change.Doing.TheVariants.{Nothing};
+ghost use Rattle.snap_stamp.specs.declared.layout.Field.TheVariants.{Lock};
+ghost use Rattle.snap_steps.specs.Seen.{IsOf, Becomes};
+ghost use Rattle.snap_steps.specs.States.{link_field};
+ghost use Rattle.snap_steps.specs.Steps.Births.{learnt, lasting_loaded};
+ghost use Rattle.snap_steps.specs.Steps.Copies.{IsOlder, IsAbove, IsCopy, copied, copy_linked};
+ghost use Rattle.snap_steps.specs.declared.view.Stage.TheVariants.{Writing};
+
+use crate::fields::index_of;
+use crate::pass::Pass;
+use crate::rows::Rows;
+use crate::view::View;
+use crate::writes::link_of;
+use atomic_table::Play;
+use snap_stamp::{Field, Key, RowNo, Side};
+
+struct LoadShared;
+
+impl Play<(), View> for LoadShared {
+    ghost then = { lasting_loaded };
+}
+
+struct LinkCopy;
+
+impl Play<(), View> for LinkCopy {
+    ghost then = { copy_linked };
+}
+
+/// Loads a word of a row of an earlier epoch. But for its lock such a row's words change no more.
+pub fn load_shared(rows: &Rows, pass: &mut Pass, row: RowNo, field: Field) -> u64
+    requires table { IsOf pass.old rows.now }
+    requires row { row ≤ rows.now.rows }
+    requires older { IsOlder pass.old.view row }
+    requires field { field ≢ Lock }
+    ensures { Becomes pass.old pass.new (learnt pass.old.view row field result) }
+{
+    let word = index_of(row, field);
+    rows.table.shared.load::<LoadShared>(&mut pass.seat, word)
+}
+
+/// Links a row of the pass, which is a copy of the child in this epoch, in the child's place. The parent is held, and
+/// is the place that the search of this write found for the key. The map stays as it is.
+pub fn link_copy(
+    rows: &Rows,
+    pass: &mut Pass,
+    key: Key,
+    parent: RowNo,
+    side: Side,
+    child: RowNo,
+    copy: RowNo,
+)
+    requires table { IsOf pass.old rows.now }
+    requires parent { parent ≤ rows.now.rows }
+    requires writing { pass.old.view.stage ≡ Writing false false }
+    requires place { IsAbove pass.old.view key parent side child }
+    requires older { IsOlder pass.old.view child }
+    requires filled { IsCopy pass.old.view copy child }
+    requires whole { pass.old.view.doing ≡ Nothing }
+    ensures { Becomes pass.old pass.new (copied pass.old.view key parent (link_field side) copy) }
+{
+    let _told = (key, child);
+    let word = index_of(parent, link_of(side));
+    rows.table
+        .shared
+        .store::<LinkCopy>(&mut pass.seat, word, copy.number() as u64);
+}
