@@ -7,11 +7,11 @@ use Rattle.snap_search.specs.Walk.{walked}
 use Rattle.snap_stamp.specs.declared.side.Side.{Side}
 use Rattle.snap_steps.specs.Histories.{Extends}
 use Rattle.snap_steps.specs.Seen.{Known}
-use Rattle.snap_steps.specs.declared.view.HeaderNote.{HeaderNote}
-use Rattle.snap_steps.specs.declared.view.HeaderNote.TheVariants.{Done}
+use Rattle.snap_steps.specs.declared.view.WordNote.{WordNote}
+use Rattle.snap_steps.specs.declared.view.WordNote.TheVariants.{Done}
 
 -- a pass with one note more
-abbrev pub with_note : Known → HeaderNote → Known
+abbrev pub with_note : Known → WordNote → Known
 with_note k n = record { table = k.table; view = record k.view { notes = k.view.notes ++ n ∷ [] } }
 
 -- a read: its answer is what the map has at the key after what the pass has now seen, which has each entry that was counted when the call began. It leaves a note of their number, and nothing else

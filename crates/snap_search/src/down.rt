@@ -2,7 +2,7 @@
 ghost use Rattle.std.specs.Prelude.{◌≡◌, ◌≢◌, ◌↔◌, ◌<◌, ◌≤◌, IsTrue, MatchOption};
 ghost use Rattle.snap_rule.specs.declared.reader.Reading.TheVariants.{On};
 ghost use Rattle.snap_rule.specs.declared.reader.Point.TheVariants.{Standing, NoLink, Linked, Confirmed, Matched};
-ghost use Rattle.snap_search.specs.Walk.{Walks, at_top, HasChild};
+ghost use Rattle.snap_search.specs.Walk.{Walks, at_top, HasChild, Confirms};
 ghost use Rattle.snap_stamp.specs.Stamps.{IsUnmarked};
 ghost use Rattle.snap_stamp.specs.declared.side.Side.TheVariants.{Right};
 ghost use Rattle.snap_steps.specs.Seen.{IsOf};
@@ -80,7 +80,7 @@ pub fn confirm_child(
     requires row { spot.now.row ≤ rows.now.rows }
     requires child { child ≤ rows.now.rows }
     requires way { pass.old.view.reads ≡ On key (Linked spot.now.row spot.now.stamp spot.now.side child) }
-    ensures { MatchOption result (Walks pass.old pass.new (at_top key)) (λ w. IsUnmarked w × Walks pass.old pass.new (On key (Confirmed child w))) }
+    ensures { MatchOption result (Walks pass.old pass.new (at_top key)) (λ w. IsUnmarked w × Confirms pass.old pass.new key child w) }
 {
     let _key = key;
     let mark = load_next_word(rows, pass, child, Field::Stamp);
@@ -104,7 +104,8 @@ pub fn pass_by(rows: &Rows, pass: &mut Pass, key: Key, child: RowNo, stamp: Stam
     requires table { IsOf pass.old rows.now }
     requires child { child ≤ rows.now.rows }
     requires way { pass.old.view.reads ≡ On key (Confirmed child stamp) }
-    ensures { MatchOption result (Walks pass.old pass.new (On key (Matched child))) (λ s. (s.row ≡ child) × Walks pass.old pass.new (On key (Standing s.row s.stamp s.side))) }
+    ensures point { MatchOption result (Walks pass.old pass.new (On key (Matched child))) (λ s. (s.row ≡ child) × Walks pass.old pass.new (On key (Standing s.row s.stamp s.side))) }
+    ensures confirmed { pass.new.view.confirmed ≡ pass.old.view.confirmed }
 {
     let found = load_next_word(rows, pass, child, Field::Key);
     if found == key {

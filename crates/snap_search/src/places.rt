@@ -1,15 +1,17 @@
 //! The search for the place of a key, for a write.
-ghost use Rattle.std.specs.Prelude.{◌≡◌, ◌≤◌, [], MatchResult};
+ghost use Rattle.std.specs.Prelude.{◌≡◌, ◌≤◌, Bool, MatchResult};
 ghost use Rattle.snap_rule.specs.declared.reader.Reading.TheVariants.{On};
 ghost use Rattle.snap_rule.specs.declared.reader.Point.TheVariants.{Standing};
-ghost use Rattle.snap_search.specs.Places.{Finds, Comes};
-ghost use Rattle.snap_search.specs.Work.{WorksTo, IsReached};
+ghost use Rattle.snap_search.specs.Places.{Finds, Comes, Goes};
+ghost use Rattle.snap_search.specs.Work.{IsReached, IsPresent};
 ghost use Rattle.snap_search.specs.declared.places.Place.TheVariants.{Below, Shared};
+ghost use Rattle.snap_steps.specs.Counting.{Among};
 ghost use Rattle.snap_steps.specs.Seen.{IsOf};
+ghost use Rattle.snap_steps.specs.declared.view.Stage.TheVariants.{Writing};
 
 use crate::down::{Spot, child_of, confirm_child, pass_by, top};
-use snap_stamp::{Field, Key, RowNo, Side, Stamp};
-use snap_steps::{Pass, Rows, load_epoch, load_word, set_out};
+use snap_stamp::{Key, RowNo, Side, Stamp};
+use snap_steps::{Pass, Rows, load_epoch, note_birth, set_out};
 use std::sync::Wait;
 
 /// Where a key belongs, and the stamp of the place's row. While the row still has it, the key belongs there.
@@ -34,9 +36,11 @@ pub enum Place {
     },
 }
 
-/// Finds the place of a key. It loads `epoch` and `done` first, and waits for nothing but its own tries.
+/// Finds the place of a key, for a pass in a write. It loads `epoch` and `done` first, notes the births of the rows on
+/// its way, and waits for nothing but its own tries.
 pub fn find_for_write<R: Wait>(rows: &Rows, rt: &R, pass: &mut Pass, key: Key) -> Place
-    requires { IsOf pass.old rows.now }
+    requires table { IsOf pass.old rows.now }
+    requires writing { (made : Bool) × (counted : Bool) × (pass.old.view.stage ≡ Writing made counted) }
     ensures { Finds rows.now.rows pass.old pass.new key result }
 {
     let epoch = load_epoch(rows, pass);
@@ -62,8 +66,10 @@ fn look_for_place(
     requires table { IsOf pass.old rows.now }
     requires row { spot.now.row ≤ rows.now.rows }
     requires reached { IsReached pass.old.view spot.now.row }
+    requires present { IsPresent pass.old.view spot.now.row epoch }
+    requires epoch { Among epoch pass.old.view.present }
     requires way { pass.old.view.reads ≡ On key (Standing spot.now.row spot.now.stamp spot.now.side) }
-    ensures { MatchResult result (λ p. Comes rows.now.rows pass.old pass.new key epoch p) (λ s. (s.row ≤ rows.now.rows) × IsReached pass.new.view s.row × WorksTo pass.old pass.new [] (On key (Standing s.row s.stamp s.side))) }
+    ensures { MatchResult result (λ p. Comes rows.now.rows pass.old pass.new key epoch p) (λ s. Goes rows.now.rows pass.old pass.new key epoch s.row s.stamp s.side) }
 {
     let child = child_of(rows, pass, key, spot);
     if child.is_none() {
@@ -73,7 +79,7 @@ fn look_for_place(
         return Err(top());
     };
     let next = pass_by(rows, pass, key, child, stamp);
-    let birth = load_word(rows, pass, child, Field::Birth);
+    let birth = note_birth(rows, pass, key, child);
     if birth < epoch {
         return Ok(above_shared(spot));
     }

@@ -1,7 +1,7 @@
 //! Searches in a table without keys.
 use crate::{Place, find_for_write, get};
 use snap_stamp::Side;
-use snap_steps::Rows;
+use snap_steps::{Rows, try_enter};
 use std::test::Fail;
 
 #[test]
@@ -9,6 +9,9 @@ fn an_empty_table_has_no_key(rt: HostRuntime) -> Result<(), Fail> {
     let (rows, mut passes) = Rows::open(rt.alloc(), 1, 1)?;
     let mut p = passes.pop().ok_or("no pass")?;
     assert_eq!(rt; get(&rows, &rt, &mut p, 7), None);
+    let Ok(()) = try_enter(&rows, &mut p, 0) else {
+        return Err("p does not enter".into());
+    };
     let Place::Below { row, stamp, side } = find_for_write(&rows, &rt, &mut p, 7) else {
         return Err("the place is not below row 0".into());
     };

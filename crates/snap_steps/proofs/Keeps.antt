@@ -5,6 +5,7 @@ pub mod Gate
 pub mod Cut
 pub mod Seats
 pub mod Fields
+pub mod Births
 pub mod Locks
 pub mod Writes
 pub mod Leaf

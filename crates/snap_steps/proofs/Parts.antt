@@ -10,3 +10,4 @@ pub mod Epochs
 pub mod Apart
 pub mod Worn
 pub mod Bases
+pub mod Lasting

@@ -7,8 +7,8 @@ use Rattle.snap_rule.specs.Tree.{EachRow, Tree, Node, Between, pairs, root, valu
 use Rattle.snap_rule.specs.Tree.Tree.{empty, node}
 use Rattle.snap_stamp.specs.declared.layout.Field.{Field}
 use Rattle.snap_stamp.specs.declared.layout.Field.TheVariants.{Key, Birth, Stamp, Lock, Height, Left, Right, Value}
-use Rattle.snap_steps.specs.declared.view.HeaderNote.{HeaderNote}
-use Rattle.snap_steps.specs.declared.view.HeaderNote.TheVariants.{Next}
+use Rattle.snap_steps.specs.declared.view.WordNote.{WordNote}
+use Rattle.snap_steps.specs.declared.view.WordNote.TheVariants.{Next}
 use Rattle.snap_steps.specs.declared.view.Part.{Part}
 use Rattle.snap_steps.specs.declared.view.Part.TheVariants.{Nothing, Top}
 use Rattle.snap_steps.specs.declared.view.View.{View}
@@ -63,8 +63,8 @@ image c = tree_of c.parts
 
 -- the load of `next` is noted, and was made since the cut
 pub record IsNotedSince (v : View) (next : ℕ) : Type 0 where
-  pub before : List HeaderNote
-  pub after : List HeaderNote
+  pub before : List WordNote
+  pub after : List WordNote
   pub is : v.notes ≡ before ++ Next next ∷ after
   pub since : v.base.noted ≤ length before
 

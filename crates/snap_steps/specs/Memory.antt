@@ -21,6 +21,22 @@ pub record Memory : Type 0 where
   pub epoch : ℕ
   pub rows : List Row
 
+-- where the words of the header stand
+abbrev pub next_at : ℕ
+next_at = 0
+
+abbrev pub gate_at : ℕ
+gate_at = 1
+
+abbrev pub left_at : ℕ
+left_at = 2
+
+abbrev pub done_at : ℕ
+done_at = 3
+
+abbrev pub epoch_at : ℕ
+epoch_at = 4
+
 abbrev pub words_of_rows : List Row → List ℕ
 words_of_rows [] = []
 words_of_rows (r ∷ rs) = r.key ∷ r.birth ∷ r.stamp ∷ r.lock ∷ r.height ∷ r.left ∷ r.right ∷ r.value ∷ words_of_rows rs

@@ -37,7 +37,7 @@ abbrev pub no_base : Base
 no_base = record { history = []; parts = []; noted = 0 }
 
 abbrev pub blank : ℕ → ℕ → Role → ℕ → View
-blank rows passes role who = record { rows = rows; passes = passes; who = who; role = role; stage = Idle; seen = []; mine = []; notes = []; handed = 0; epochs = 0; worn = false; drawn = []; cuts = []; uses = 0; admitted = []; base = no_base; holds = []; knows = []; reached = []; own = []; wrote = []; reads = Resting; doing = Nothing; present = []; steps = 0; joined = [] }
+blank rows passes role who = record { rows = rows; passes = passes; who = who; role = role; stage = Idle; seen = []; mine = []; notes = []; handed = 0; epochs = 0; worn = false; drawn = []; cuts = []; uses = 0; admitted = []; base = no_base; holds = []; knows = []; refused = []; lasting = []; reached = []; own = []; wrote = []; reads = Resting; confirmed = []; doing = Nothing; present = []; steps = 0; joined = [] }
 
 -- a seat that counts nowhere, and knows this
 abbrev pub silent : ℕ → ℕ → List Entry → ℕ → ℕ → Bool → Base → View

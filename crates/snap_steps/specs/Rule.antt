@@ -14,6 +14,7 @@ pub mod Ways
 pub mod Apart
 pub mod Worn
 pub mod Bases
+pub mod Lasting
 use Rattle.std.specs.Prelude.{◌≡◌, ℕ, List, length}
 use Rattle.snap_rule.specs.Doing.{DoingOk}
 use Rattle.snap_rule.specs.Rule.{TableOk}
@@ -42,6 +43,7 @@ use Rattle.snap_steps.specs.Rule.Apart.{AreApart}
 use Rattle.snap_steps.specs.Rule.Epochs.{KnowsEpoch}
 use Rattle.snap_steps.specs.Rule.Worn.{KnowsWorn}
 use Rattle.snap_steps.specs.Rule.Bases.{KnowsBase}
+use Rattle.snap_steps.specs.Rule.Lasting.{AreLasting}
 use Rattle.snap_steps.specs.Numbers.{all_cuts}
 
 pub record Kept (about : About) (words : List ℕ) (views : List View) : Type 0 where
@@ -73,3 +75,4 @@ pub record Kept (about : About) (words : List ℕ) (views : List View) : Type 0 
   pub apart : AreApart m.next m.rows g.linked views
   pub worn : Each (KnowsWorn (state_of m g)) views
   pub based : Each (KnowsBase (state_of m g)) views
+  pub lasting : Each (λ v. AreLasting (state_of m g) v.lasting) views

@@ -5,6 +5,7 @@ pub mod Draws
 pub mod Gate
 pub mod Seats
 pub mod Fields
+pub mod Births
 pub mod Locks
 pub mod Writes
 pub mod Changes

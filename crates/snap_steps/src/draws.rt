@@ -4,7 +4,7 @@ ghost use Rattle.snap_steps.specs.Drawing.{HasDrawn, FoundFull};
 ghost use Rattle.snap_steps.specs.Seen.{IsOf, Becomes};
 ghost use Rattle.snap_steps.specs.Steps.Draws.{drew, drawing_tried};
 ghost use Rattle.snap_steps.specs.Steps.Header.{noted};
-ghost use Rattle.snap_steps.specs.declared.view.HeaderNote.TheVariants.{Next};
+ghost use Rattle.snap_steps.specs.declared.view.WordNote.TheVariants.{Next};
 
 use crate::header::load_next;
 use crate::pass::Pass;

@@ -1,9 +1,10 @@
 //! Loads of the header. Each leaves a note of what it found.
-ghost use Rattle.std.specs.Prelude.{◌≡◌, ◌≤◌, length};
+ghost use Rattle.std.specs.Prelude.{◌≡◌, ◌≤◌, ℕ, length};
+ghost use Rattle.snap_steps.specs.Counting.{Among};
 ghost use Rattle.snap_steps.specs.Histories.{Extends};
 ghost use Rattle.snap_steps.specs.Seen.{IsOf, Becomes};
 ghost use Rattle.snap_steps.specs.Steps.Header.{noted, saw, left_seen, epoch_noted, next_loaded, gate_loaded, left_loaded, done_loaded, epoch_loaded};
-ghost use Rattle.snap_steps.specs.declared.view.HeaderNote.TheVariants.{Next, Gate, Done};
+ghost use Rattle.snap_steps.specs.declared.view.WordNote.TheVariants.{Next, Gate, Done};
 
 use crate::pass::Pass;
 use crate::rows::Rows;
@@ -74,10 +75,12 @@ pub fn load_done(rows: &Rows, pass: &mut Pass) -> u64
     rows.table.shared.load::<LoadDone>(&mut pass.seat, 3)
 }
 
-/// How many clones were cut. A pass in a write knows from then on that this is the epoch until it leaves.
+/// How many clones were cut. A pass in a write knows from then on that this is the epoch until it leaves, and finds
+/// the same again.
 pub fn load_epoch(rows: &Rows, pass: &mut Pass) -> u64
     requires { IsOf pass.old rows.now }
-    ensures { Becomes pass.old pass.new (epoch_noted pass.old.view result) }
+    ensures pass { Becomes pass.old pass.new (epoch_noted pass.old.view result) }
+    ensures same { (e : ℕ) → Among e pass.old.view.present → result ≡ e }
 {
     rows.table.shared.load::<LoadEpoch>(&mut pass.seat, 4)
 }

@@ -6,6 +6,7 @@
 #![tactic(auto)]
 
 mod absences;
+mod births;
 mod changes;
 mod clones;
 mod counter;
@@ -24,6 +25,7 @@ mod way;
 mod writes;
 
 pub use absences::confirm_absent_below;
+pub use births::{load_birth, note_birth};
 pub use changes::mark_shrinking;
 pub use clones::{RowCopy, ViewSeat, load_root, load_row, load_stamp, split_view, twin};
 pub use counter::Steps;
@@ -36,7 +38,7 @@ pub use locks::{free_lock, try_lock};
 pub use pass::{Note, Pass, Receipt};
 pub use rows::Rows;
 pub use seats::{admit, finish, learn, note};
-pub use view::{Admitted, Base, Fact, HeaderNote, Part, Role, Stage, View};
+pub use view::{Admitted, Base, Fact, Part, Role, Stage, View, WordNote};
 pub use way::{load_last_word, load_next_word, set_out};
 pub use writes::{confirm_absent, count_done, link_leaf, store_value};
 

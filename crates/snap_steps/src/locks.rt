@@ -1,5 +1,5 @@
 //! The locks of rows.
-ghost use Rattle.std.specs.Prelude.{◌≡◌, ◌⊎◌, ◌<◌, ◌≤◌, Bool, MatchBool};
+ghost use Rattle.std.specs.Prelude.{◌≡◌, ◌≢◌, ◌⊎◌, ◌<◌, ◌≤◌, Bool, MatchBool};
 ghost use Rattle.snap_rule.specs.declared.change.Doing.TheVariants.{Nothing};
 ghost use Rattle.snap_steps.specs.Counting.{Among, times};
 ghost use Rattle.snap_steps.specs.Seen.{IsOf, Becomes};
@@ -32,7 +32,7 @@ pub fn try_lock(rows: &Rows, pass: &mut Pass, row: RowNo) -> bool
     requires writing { (made : Bool) × (counted : Bool) × (pass.old.view.stage ≡ Writing made counted) }
     requires free { times row pass.old.view.holds ≡ 0 }
     requires reached { (row ≡ 0) ⊎ (Among row pass.old.view.reached) }
-    ensures { MatchBool result (Becomes pass.old pass.new (locked pass.old.view row)) (Becomes pass.old pass.new (missed pass.old.view)) }
+    ensures { MatchBool result (Becomes pass.old pass.new (locked pass.old.view row)) ((word : _) × (word ≢ 0) × Becomes pass.old pass.new (missed pass.old.view row word)) }
 {
     let word = index_of(row, Field::Lock);
     let new = pass.who as u64 + 1;

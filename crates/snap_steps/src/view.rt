@@ -4,13 +4,15 @@ use snap_rule::{Doing, Reading};
 use snap_stamp::Field;
 use std::collections::LinkedList;
 
-/// A word of the header, as a pass loaded it.
-pub enum HeaderNote {
+/// A word as a pass loaded it: one of the header, or the birth of a row to which all checks had led it on the way of a
+/// key, with that key.
+pub enum WordNote {
     Next(u32),
     Gate(u64),
     Left(u64),
     Done(u64),
     Epoch(u64),
+    Birth(u64, u64),
 }
 
 /// What is kept of a number that was admitted.
@@ -42,7 +44,7 @@ pub enum Stage {
     Closing { gate: u64, quiet: bool, cut: bool },
 }
 
-/// A word of a row, as the pass last loaded or stored it while the row was its own or held.
+/// A word of a row as a pass found or stored it.
 pub struct Fact {
     pub row: u32,
     pub field: Field,
@@ -80,8 +82,8 @@ pub struct View {
     /// What it has seen of the history, and its own entries in it.
     pub seen: LinkedList<Entry>,
     pub mine: LinkedList<Entry>,
-    /// The header words that it loaded, in their order.
-    pub notes: LinkedList<HeaderNote>,
+    /// The words that it noted, in their order.
+    pub notes: LinkedList<WordNote>,
     /// The greatest `Next` and the greatest `Epoch` that it, or a seat that was joined to it, noted.
     pub handed: u32,
     pub epochs: u64,
@@ -99,6 +101,10 @@ pub struct View {
     /// The rows whose locks it holds, and what it knows of their words.
     pub holds: LinkedList<u32>,
     pub knows: LinkedList<Fact>,
+    /// The lock words for which it was refused a row.
+    pub refused: LinkedList<Fact>,
+    /// Words that change no more: births of rows that were linked, and words of rows of an earlier epoch.
+    pub lasting: LinkedList<Fact>,
     /// Rows that were linked, to which it came.
     pub reached: LinkedList<u32>,
     /// Rows that it drew and that aren't linked, and what it stored in them.
@@ -106,6 +112,8 @@ pub struct View {
     pub wrote: LinkedList<Fact>,
     /// Where it is on the way to a key.
     pub reads: Reading,
+    /// The row to which all checks led it there, as long as it hasn't noted its birth.
+    pub confirmed: LinkedList<u32>,
     /// The change that it is in.
     pub doing: Doing,
     /// What it loaded as the epoch in this write.

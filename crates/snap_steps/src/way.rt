@@ -6,7 +6,7 @@ ghost use Rattle.snap_steps.specs.Histories.{Extends};
 ghost use Rattle.snap_steps.specs.Seen.{IsOf, Becomes};
 ghost use Rattle.snap_steps.specs.Steps.Header.{noted};
 ghost use Rattle.snap_steps.specs.Steps.Way.{set_out_for, read_on, settled_at, IsNext, IsLast, HasBound, HasAnswer, way_begun, next_read, answer_read};
-ghost use Rattle.snap_steps.specs.declared.view.HeaderNote.TheVariants.{Done};
+ghost use Rattle.snap_steps.specs.declared.view.WordNote.TheVariants.{Done};
 
 use crate::fields::index_of;
 use crate::pass::Pass;

@@ -11,7 +11,7 @@ ghost use Rattle.snap_steps.specs.Histories.{Extends};
 ghost use Rattle.snap_steps.specs.Seen.{IsOf, IsOpened, Becomes};
 ghost use Rattle.snap_steps.specs.Steps.Header.{noted};
 ghost use Rattle.snap_steps.specs.Steps.Seats.{note_of, heard, with_admitted};
-ghost use Rattle.snap_steps.specs.declared.view.HeaderNote.TheVariants.{Next};
+ghost use Rattle.snap_steps.specs.declared.view.WordNote.TheVariants.{Next};
 ghost use Rattle.snap_steps.specs.declared.view.Stage.TheVariants.{Idle};
 ghost use Rattle.snap_table.specs.Calls.{IsIdle, Replies, Refuses};
 ghost use Rattle.snap_table.specs.Clones.{HasCut, Cuts};
@@ -61,7 +61,7 @@ impl SnapTable {
     }
 
     /// Sets the key to the value, and answers the value that was there. `Full` comes only where every row was handed
-    /// out and the key is absent; the map is then unchanged.
+    /// out, and the key is absent or rows of earlier epochs stand on its way; the map is then unchanged.
     pub fn put<R: Wait>(
         &self,
         rt: &R,
@@ -78,8 +78,8 @@ impl SnapTable {
         self.make(rt, pass, &Call::Put { key, value })
     }
 
-    /// Takes the key out, and answers the value that was there. An absent key has its entry too. `Full` never comes
-    /// while the table has no clones: what it says holds of puts alone.
+    /// Takes the key out, and answers the value that was there. An absent key has its entry too. `Full` comes only
+    /// where every row was handed out and rows of earlier epochs stand on the key's way; the map is then unchanged.
     pub fn remove<R: Wait>(&self, rt: &R, pass: &mut Pass, key: Key) -> Result<Option<u64>, Full>
         requires table { IsOf pass.old self.now }
         requires idle { IsIdle pass.old.view }

@@ -1,31 +1,32 @@
 -- Steps before the entry of a write, and after it.
-use Rattle.std.proofs.Common.{◌≡◌, ◌⊎◌, inl, inr, ℕ, ◌<◌, List, [], ◌∷◌, ◌++◌, append_assoc, append-nil, Option, None, refl, sym, ap, ◌∙◌, subst, arith}
+use Rattle.std.proofs.Common.{◌≡◌, inl, inr, ℕ, ◌<◌, List, [], ◌∷◌, ◌++◌, append_assoc, append-nil, Option, None, refl, sym, ap, ◌∙◌, subst, arith}
 use Rattle.snap_locks.specs.Held.{HasLocked}
-use Rattle.snap_model.specs.History.{Begins, IsLegal, calls_of, told}
+use Rattle.snap_model.specs.History.{Begins, IsLegal, calls_of, call_key}
 use Rattle.snap_model.specs.declared.call.Call.{Call}
 use Rattle.snap_model.specs.declared.call.Entry.{Entry}
 use Rattle.snap_search.specs.Walk.{SeesMore}
-use Rattle.snap_search.specs.Work.{worked, Works, NotesMore}
+use Rattle.snap_search.specs.Work.{Works, NotesMore}
 use mathlib.Core.Logic.{dite}
 use native.Mathlib.Decide.{ℕ_discrete}
-use Rattle.snap_search.proofs.Walking.{begins_on, times-append}
+use Rattle.snap_rule.specs.State.{In}
+use Rattle.snap_search.proofs.Walking.{begins_on, sees_on, times-append}
 use Rattle.snap_search.proofs.Working.{notes_on, no_notes, works_on}
 use Rattle.snap_steps.specs.Counting.{times, removed}
-use Rattle.snap_steps.specs.Histories.{Extends, Enters}
+use Rattle.snap_steps.specs.Histories.{Enters}
 use Rattle.snap_steps.specs.Seen.{Known, Becomes}
-use Rattle.snap_steps.specs.Steps.Locks.{locked, unlocked}
+use Rattle.snap_steps.specs.Steps.Locks.{unlocked}
 use Rattle.snap_steps.specs.Drawing.{HasDrawn, notes_of}
 use Rattle.snap_steps.specs.Steps.Draws.{drew}
 use Rattle.snap_steps.specs.Steps.Header.{all_noted}
 use Rattle.snap_steps.specs.Steps.Writes.{entry, stored, made_entry, hung}
-use Rattle.snap_steps.proofs.Totals.{removed_same, one_other}
+use Rattle.snap_steps.proofs.Totals.{removed_same, one_other, total-append}
 use Rattle.snap_stamp.specs.declared.layout.Field.{Field}
 use Rattle.snap_model.specs.declared.call.Call.TheVariants.{Put}
 use Rattle.snap_update.specs.Held.{Fills}
-use Rattle.snap_steps.specs.declared.view.HeaderNote.{HeaderNote}
-use Rattle.snap_steps.specs.declared.view.HeaderNote.TheVariants.{Epoch}
+use Rattle.snap_steps.specs.declared.view.WordNote.{WordNote}
+use Rattle.snap_steps.specs.declared.view.WordNote.TheVariants.{Epoch}
 use Rattle.snap_steps.specs.declared.view.View.{View}
-use Rattle.snap_update.specs.Answers.{written, LinksWhatItDraws, Made, Writes, Refuses, RefusedFull, IsAmong}
+use Rattle.snap_update.specs.Answers.{written, Made, Writes, PutsAbsent, Refuses, is_older, NeedsRow, RefusedFull}
 use Rattle.snap_update.proofs.Holding.{works_freed, removed_alone}
 
 -- a step after which the pass is as the view says is one of a write where the view differs in nothing else
@@ -36,14 +37,14 @@ pub written_on : (old mid new : Known) → mid ≡ written old mid.view → new 
 written_on old mid new a b = b ∙ ap (λ (k : Known). written k new.view) a
 
 -- what comes before the entry
-pub record Before (old mid : Known) (l : List HeaderNote) (rows : List ℕ) : Type 0 where
+pub record Before (old mid : Known) (l : List WordNote) (rows : List ℕ) : Type 0 where
   pub is : mid ≡ written old mid.view
   pub mine : mid.view.mine ≡ old.view.mine
   pub drawn : mid.view.drawn ≡ old.view.drawn ++ rows
   pub noted : NotesMore old.view mid.view l
   pub sees : SeesMore old.view mid.view
 
-pub works_before : (old mid : Known) (l : List HeaderNote) → Works old mid l → Before old mid l []
+pub works_before : (old mid : Known) (l : List WordNote) → Works old mid l → Before old mid l []
 works_before old mid l w = record {
   is = w.is ∙ ap (λ (k : Known). written old k.view) (sym w.is);
   mine = ap (λ (k : Known). k.view.mine) w.is;
@@ -65,7 +66,7 @@ goes_from : (v w : View) (h : List Entry) → SeesMore v w → Begins w.seen h �
 goes_from v w h (inl e) b = subst (λ (l : List Entry). Begins l h) e b
 goes_from v w h (inr x) b = begins_on v.seen w.seen h x.goes_on b
 
-pub made_after : (old mid new : Known) (l : List HeaderNote) (rows : List ℕ) (call : Call) (reply : Option ℕ) → Before old mid l rows → ((r : ℕ) → 0 < times r rows → times r new.view.own ≡ 0) → Made mid new call reply → Made old new call reply
+pub made_after : (old mid new : Known) (l : List WordNote) (rows : List ℕ) (call : Call) (reply : Option ℕ) → Before old mid l rows → ((r : ℕ) → 0 < times r rows → times r new.view.own ≡ 0) → Made mid new call reply → Made old new call reply
 made_after old mid new l rows call reply b linked m =
     let who : mid.view.who ≡ old.view.who = ap (λ (k : Known). k.view.who) b.is in
     let same : entry mid.view.who call reply ≡ entry old.view.who call reply = ap (λ (i : ℕ). entry i call reply) who in record {
@@ -108,39 +109,33 @@ writes_locked old a b new row call reply l w e free = record {
   holds = ap (λ (k : Known). k.view.holds) e ∙ ap (removed row) (w.holds ∙ ap (λ (k : Known). k.view.holds) l.is ∙ ap (λ (h : List ℕ). row ∷ h) free) ∙ removed_alone row ∙ sym free;
 }
 
-pub writes_after : (old mid new : Known) (l : List HeaderNote) (call : Call) (reply : Option ℕ) → Works old mid l → Writes mid new call reply → Writes old new call reply
+pub writes_after : (old mid new : Known) (l : List WordNote) (call : Call) (reply : Option ℕ) → Works old mid l → Writes mid new call reply → Writes old new call reply
 writes_after old mid new l call reply w m = record { made = made_after old mid new l [] call reply (works_before old mid l w) (λ r some. absurd (omega arith)) m.made; holds = m.holds ∙ ap (λ (k : Known). k.view.holds) w.is }
 
 -- a refusal, likewise
 pub refuses_locked : (rows : ℕ) (old a b new : Known) (row : ℕ) (call : Call) → HasLocked old a row → Refuses rows a b call → Becomes b new (unlocked b.view row) → old.view.holds ≡ [] → Refuses rows old new call
 refuses_locked rows old a b new row call l r e free = record {
-  key = r.key;
-  value = r.value;
-  is_put = r.is_put;
-  absent = ap (λ (k : Known). told k.view.seen r.key) e ∙ r.absent;
+  absent = subst (λ (k : Known). PutsAbsent call k.view.seen) (sym e) r.absent;
   more = r.more;
   works = works_freed old a b new row r.more l r.works e free;
   full = r.full;
 }
 
-pub among_right : (n : HeaderNote) (l m : List HeaderNote) → IsAmong n m → IsAmong n (l ++ m)
-among_right n [] m h = h
-among_right n (x ∷ xs) m h = inr (among_right n xs m h)
+pub in_right : (n : WordNote) (l m : List WordNote) → In n m → In n (l ++ m)
+in_right n [] m h = h
+in_right n (x ∷ xs) m h = inr (in_right n xs m h)
 
-pub among_left : (n : HeaderNote) (l m : List HeaderNote) → IsAmong n l → IsAmong n (l ++ m)
-among_left n [] m h = absurd h
-among_left n (x ∷ xs) m (inl e) = inl e
-among_left n (x ∷ xs) m (inr h) = inr (among_left n xs m h)
+pub in_left : (n : WordNote) (l m : List WordNote) → In n l → In n (l ++ m)
+in_left n [] m h = absurd h
+in_left n (x ∷ xs) m (inl e) = inl e
+in_left n (x ∷ xs) m (inr h) = inr (in_left n xs m h)
 
-pub refuses_after : (rows : ℕ) (old mid new : Known) (l : List HeaderNote) (call : Call) → Works old mid l → Refuses rows mid new call → Refuses rows old new call
+pub refuses_after : (rows : ℕ) (old mid new : Known) (l : List WordNote) (call : Call) → Works old mid l → Refuses rows mid new call → Refuses rows old new call
 refuses_after rows old mid new l call w r = record {
-  key = r.key;
-  value = r.value;
-  is_put = r.is_put;
   absent = r.absent;
   more = l ++ r.more;
   works = works_on old mid new l r.more w r.works;
-  full = among_right _ l r.more r.full;
+  full = in_right _ l r.more r.full;
 }
 
 -- the entry at the row that has the key: its value word was stored, or was 0
@@ -211,7 +206,40 @@ hangs rows old a b new leaf key value parent field log d f enters e =
       holds = ap (λ (k : Known). k.view.holds) e ∙ ap (λ (k : Known). k.view.holds) f.is ∙ ap (λ (k : Known). k.view.holds) d.3;
     }
 
--- and with a note of the epoch that came before it, or with it
-pub refused_after : (rows : ℕ) (old mid new : Known) (l : List HeaderNote) (call : Call) (e : ℕ) → Works old mid l → (r : Refuses rows mid new call) → IsAmong (Epoch e) (l ++ r.more) → RefusedFull rows old new call
-unfolding refuses_after
-refused_after rows old mid new l call e w r noted = record { refuses = refuses_after rows old mid new l call w r; epoch = e; noted = noted }
+-- a refusal, with a note of the epoch that came before it or with it
+pub refused_after : (rows : ℕ) (old mid new : Known) (l : List WordNote) (call : Call) (e : ℕ) → Works old mid l → (r : Refuses rows mid new call) → In (Epoch e) (l ++ r.more) → RefusedFull rows old new call
+refused_after rows old mid new l call e w r noted = let on = works_on old mid new l r.more w r.works in record {
+  is = on.is ∙ ap (λ (k : Known). written old k.view) (sym on.is);
+  mine = ap (λ (k : Known). k.view.mine) on.is;
+  stage = ap (λ (k : Known). k.view.stage) on.is;
+  holds = ap (λ (k : Known). k.view.holds) on.is;
+  sees = on.sees;
+  links = record { rows = []; drawn = ap (λ (k : Known). k.view.drawn) on.is ∙ sym (append-nil old.view.drawn); linked = λ n some. absurd (omega arith) };
+  more = l ++ r.more;
+  noted = on.noted;
+  full = in_right _ l r.more r.full;
+  epoch = e;
+  epoch_noted = noted;
+  cause = inl r.absent;
+}
+
+-- a refusal after work
+pub refused_later : (rows : ℕ) (old mid new : Known) (l : List WordNote) (call : Call) → Works old mid l → RefusedFull rows mid new call → RefusedFull rows old new call
+refused_later rows old mid new l call w r = record {
+  is = written_on old mid new (w.is ∙ ap (λ (k : Known). written old k.view) (sym w.is)) r.is;
+  mine = r.mine ∙ ap (λ (k : Known). k.view.mine) w.is;
+  stage = r.stage ∙ ap (λ (k : Known). k.view.stage) w.is;
+  holds = r.holds ∙ ap (λ (k : Known). k.view.holds) w.is;
+  sees = sees_on old.view mid.view new.view (ap (λ (k : Known). k.view.who) w.is) (ap (λ (k : Known). k.view.mine) w.is) w.sees r.sees;
+  links = record { rows = r.links.rows; drawn = r.links.drawn ∙ ap (λ (k : Known). k.view.drawn ++ r.links.rows) w.is; linked = r.links.linked };
+  more = l ++ r.more;
+  noted = notes_on old.view mid.view new.view l r.more w.noted r.noted;
+  full = in_right _ l r.more r.full;
+  epoch = r.epoch;
+  epoch_noted = in_right _ l r.more r.epoch_noted;
+  cause = cause r.cause;
+}
+  where
+    cause : NeedsRow call new.view.seen r.epoch r.links.rows r.more → NeedsRow call new.view.seen r.epoch r.links.rows (l ++ r.more)
+    cause (inl h) = inl h
+    cause (inr h) = inr (omega (arith, h, total-append (is_older (call_key call) r.epoch) l r.more))

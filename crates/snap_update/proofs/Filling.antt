@@ -1,16 +1,16 @@
 -- A row that is made a leaf, and the place at which it is linked.
-use Rattle.std.proofs.Common.{◌≡◌, ◌≢◌, ◌⊎◌, inl, inr, ℕ, suc, ◌+◌, ◌<◌, ◌%◌, ◌==◌, ◌&&◌, cond, Bool, true, false, List, [], ◌∷◌, add-one, refl, sym, ap, ◌∙◌, subst, arith}
+use Rattle.std.proofs.Common.{◌≡◌, ◌⊎◌, inl, inr, ℕ, ◌+◌, ◌<◌, ◌==◌, ◌&&◌, cond, Bool, true, false, List, [], ◌∷◌, add-one, refl, sym, ap, ◌∙◌, subst, arith}
 use Rattle.snap_rule.specs.declared.reader.Point.TheVariants.{Standing, NoLink}
 use Rattle.snap_rule.specs.declared.reader.Reading.TheVariants.{On}
 use Rattle.snap_stamp.specs.declared.layout.Field.{Field}
 use Rattle.snap_stamp.specs.declared.layout.Field.TheVariants.{Key, Birth, Stamp, Height, Left, Right, Value}
 use Rattle.snap_stamp.specs.declared.side.Side.{Side}
 use Rattle.snap_steps.specs.Counting.{times}
-use Rattle.snap_steps.specs.Facts.{IsKnown, IsBorn, fact, forgotten, same_field}
+use Rattle.snap_steps.specs.Facts.{IsKnown, IsBorn, forgotten, same_field}
 use Rattle.snap_steps.specs.Seen.{Known, Becomes}
 use Rattle.snap_steps.specs.States.{link_field}
 use Rattle.snap_steps.specs.Steps.Fields.{read, own_stored}
-use Rattle.snap_steps.specs.Steps.Writes.{IsLeaf, IsPlace}
+use Rattle.snap_steps.specs.Steps.Writes.{IsPlace}
 use Rattle.snap_steps.specs.declared.view.Fact.{Fact}
 use Rattle.snap_steps.specs.declared.view.View.{View}
 use Rattle.snap_update.specs.Held.{Holds, IsStill, Fills, stored_in}

@@ -1,18 +1,18 @@
 -- Work under the lock of a row.
-use Rattle.std.proofs.Common.{◌≡◌, ◌≢◌, ◌⊎◌, inl, inr, ℕ, ◌+◌, ◌<◌, ◌==◌, ◌&&◌, cond, Bool, true, false, eq-eqb, nat_lt, lt-ltb, List, [], ◌∷◌, ◌++◌, refl, sym, ap, ◌∙◌, subst, arith}
+use Rattle.std.proofs.Common.{◌≡◌, inl, inr, ℕ, ◌+◌, ◌<◌, cond, Bool, true, false, eq-eqb, nat_lt, lt-ltb, List, [], ◌∷◌, ◌++◌, refl, sym, ap, ◌∙◌, subst, arith}
 use Rattle.snap_locks.specs.Held.{HasLocked}
 use Rattle.snap_search.specs.Walk.{SeesMore}
-use Rattle.snap_search.specs.Work.{worked, Works, NotesMore}
+use Rattle.snap_search.specs.Work.{worked, Works}
 use Rattle.snap_search.proofs.Walking.{extends_on}
 use Rattle.snap_stamp.specs.declared.layout.Field.{Field}
-use Rattle.snap_steps.specs.Counting.{times, removed}
-use Rattle.snap_steps.specs.Facts.{IsKnown, fact, forgotten, same_field}
+use Rattle.snap_steps.specs.Counting.{times, removed, Among}
+use Rattle.snap_steps.specs.Facts.{IsKnown, fact}
 use Rattle.snap_steps.specs.Histories.{Extends}
 use Rattle.snap_steps.specs.Seen.{Known, Becomes}
 use Rattle.snap_steps.specs.Steps.Fields.{read}
 use Rattle.snap_steps.specs.Steps.Header.{all_handed, all_epochs}
 use Rattle.snap_steps.specs.Steps.Locks.{unlocked}
-use Rattle.snap_steps.specs.declared.view.HeaderNote.{HeaderNote}
+use Rattle.snap_steps.specs.declared.view.WordNote.{WordNote}
 use Rattle.snap_steps.specs.declared.view.Fact.{Fact}
 use Rattle.snap_steps.specs.declared.view.View.{View}
 
@@ -41,7 +41,7 @@ known_still old new r f x q g y e h = subst (λ (k : Known). IsKnown k.view.know
 abbrev free_holds : Known → View → List ℕ → Known
 free_holds k w holds = record { table = k.table; view = record (worked k w).view { holds = holds } }
 
-pub works_freed : (old a b new : Known) (row : ℕ) (more : List HeaderNote) → HasLocked old a row → Works a b more → Becomes b new (unlocked b.view row) → old.view.holds ≡ [] → Works old new more
+pub works_freed : (old a b new : Known) (row : ℕ) (more : List WordNote) → HasLocked old a row → Works a b more → Becomes b new (unlocked b.view row) → old.view.holds ≡ [] → Works old new more
 works_freed old a b new row more l w e free =
     let back : removed row (row ∷ old.view.holds) ≡ old.view.holds = ap (λ (h : List ℕ). removed row (row ∷ h)) free ∙ removed_alone row ∙ sym free in
     let here : new ≡ free_holds b new.view (removed row b.view.holds) = e ∙ ap (λ (k : Known). free_holds b k.view (removed row b.view.holds)) (sym e) in
@@ -54,6 +54,8 @@ works_freed old a b new row more l w e free =
       };
       sees = sees;
       kept = λ r. omega (arith, ap (λ (k : Known). times r k.view.reached) e, w.kept r, ap (λ (k : Known). times r k.view.reached) l.is);
+      lasting = λ r f x h. subst (λ (k : Known). IsKnown k.view.lasting r f x) (sym e) (w.lasting r f x (subst (λ (k : Known). IsKnown k.view.lasting r f x) (sym l.is) h));
+      present = λ x h. subst (λ (k : Known). Among x k.view.present) (sym e) (w.present x (subst (λ (k : Known). Among x k.view.present) (sym l.is) h));
     }
   where
     last : new.view.seen ≡ b.view.seen

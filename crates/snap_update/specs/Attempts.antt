@@ -4,14 +4,14 @@ use Rattle.snap_model.specs.History.{told}
 use Rattle.snap_model.specs.declared.call.Call.{Call}
 use Rattle.snap_search.specs.Work.{Works}
 use Rattle.snap_steps.specs.Seen.{Known}
-use Rattle.snap_steps.specs.declared.view.HeaderNote.{HeaderNote}
+use Rattle.snap_steps.specs.declared.view.WordNote.{WordNote}
 use Rattle.snap_update.specs.Answers.{Writes, Refuses, RefusedFull}
 use Rattle.snap_update.specs.declared.attempt.Attempt.{Attempt}
 use Rattle.snap_update.specs.declared.attempt.Attempt.TheVariants.{Made, Again, Refused}
 
 -- the pass has gone on with its work
 abbrev pub WorksOn : Known → Known → Type 0
-WorksOn old new = (more : List HeaderNote) × Works old new more
+WorksOn old new = (more : List WordNote) × Works old new more
 
 -- a try at a place
 abbrev pub Attempts : ℕ → Known → Known → Call → Attempt → Type 0

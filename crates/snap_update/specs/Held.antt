@@ -8,7 +8,7 @@ use Rattle.snap_steps.specs.Facts.{IsKnown, IsBorn}
 use Rattle.snap_steps.specs.Seen.{Known}
 use Rattle.snap_steps.specs.Steps.Writes.{IsLeaf}
 use Rattle.snap_steps.specs.declared.view.Fact.{Fact}
-use Rattle.snap_steps.specs.declared.view.HeaderNote.TheVariants.{Epoch}
+use Rattle.snap_steps.specs.declared.view.WordNote.TheVariants.{Epoch}
 use Rattle.snap_steps.specs.declared.view.Stage.TheVariants.{Writing}
 use Rattle.snap_steps.specs.declared.view.View.{View}
 use Rattle.std.specs.Prelude.{List}

@@ -16,8 +16,8 @@ use snap_steps::{Full, Pass, Rows};
 use std::sync::Wait;
 
 /// Makes the entry of the call, and answers its reply: what the map had at the key. A removal of an absent key has
-/// its entry too. `Full` comes only for a put of an absent key where every row was handed out; then there is no
-/// entry. No row is held afterwards.
+/// its entry too. `Full` comes only where every row was handed out and the call needs one: it is a put of an absent
+/// key, or met more rows of earlier epochs than it drew. Then there is no entry. No row is held afterwards.
 pub fn write<R: Wait>(
     rows: &Rows,
     rt: &R,

@@ -45,6 +45,8 @@ use Rattle.snap_steps.proofs.Knowing.{known_is}
 use Rattle.snap_steps.proofs.Parts.Bases.{bases_evolve}
 use Rattle.snap_steps.specs.Rule.Bases.{KnowsBase}
 use Rattle.snap_steps.specs.Rule.Worn.{KnowsWorn}
+use Rattle.snap_steps.specs.Rule.Lasting.{AreLasting}
+use Rattle.snap_steps.proofs.Parts.Lasting.{lastings_evolve}
 use Rattle.snap_steps.specs.Rule.Names.{ActsAsPass}
 use Rattle.snap_steps.proofs.Parts.Worn.{worns_evolve}
 use Rattle.snap_steps.specs.declared.view.Fact.{Fact}
@@ -94,6 +96,7 @@ entering about words views k id v at words' rows' e b own wrote knows away memor
       ways = each_set {P = IsOnWay s'} {Q = IsOnWay s'} views id w (ways_evolve (state_of k.m k.g) s' views ev k.history.seen k.ways) (λ u p. p) tt;
       worn = each_stays views id v w at (KnowsWorn s') (worns_evolve (state_of k.m k.g) s' views ev k.worn) (λ p. p);
       based = each_stays views id v w at (KnowsBase s') (bases_evolve about words views k s' ev) (λ p. (p.0, λ z. absurd (omega (arith, z))));
+      lasting = each_stays views id v w at (λ u. AreLasting s' u.lasting) (lastings_evolve (state_of k.m k.g) s' views ev k.lasting) (λ p. p);
       cut = cut_stays views id v w at k.m.epoch k.cut refl refl;
       acting = each_stays views id v w at ActsAsPass k.acting (λ _ z. absurd (omega (arith, z, ap is_counted passing)));
       apart = apart;

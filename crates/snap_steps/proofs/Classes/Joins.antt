@@ -101,6 +101,7 @@ joining about words views k id v at other u apart more there passing not_opening
       ways = each_join views id v b at other u gone apart there k.ways (λ x p. p) tt tt;
       worn = each_join views id v b at other u gone apart there k.worn (λ x p. p) (λ saw. ⊎_elim (k.worn id v at) (k.worn other u before_u) (or_cases v.worn u.worn saw)) (λ (e : false ≡ true). cc);
       based = each_join views id v b at other u gone apart there k.based (λ x p. p) (k.based id v at) (no_base_is (state_of k.m k.g), λ z. absurd (omega (arith, z)));
+      lasting = each_join views id v b at other u gone apart there k.lasting (λ x p. p) (k.lasting id v at) tt;
       apart = record {
         low = k.apart.low;
         own = each_join views id v b at other u gone apart there k.apart.own (λ x p. p) (k.apart.own id v at) (λ r l. absurd (omega arith));

@@ -36,6 +36,8 @@ use Rattle.snap_steps.proofs.Parts.History.{history_stays}
 use Rattle.snap_steps.proofs.Parts.Bases.{bases_evolve}
 use Rattle.snap_steps.specs.Rule.Bases.{KnowsBase}
 use Rattle.snap_steps.specs.Rule.Worn.{KnowsWorn}
+use Rattle.snap_steps.specs.Rule.Lasting.{AreLasting}
+use Rattle.snap_steps.proofs.Parts.Lasting.{lastings_evolve}
 use Rattle.snap_steps.specs.Rule.Names.{ActsAsPass}
 use Rattle.snap_steps.proofs.Parts.Worn.{worns_evolve}
 
@@ -75,6 +77,7 @@ rewriting about words views k id v at words' rows' b steps doing knows away memo
       ways = each_stays views id v w at (IsOnWay s') (ways_evolve s s' views ev k.history.seen k.ways) (λ p. p);
       worn = each_stays views id v w at (KnowsWorn s') (worns_evolve s s' views ev k.worn) (λ p. p);
       based = each_stays views id v w at (KnowsBase s') (bases_evolve about words views k s' ev) (λ p. p);
+      lasting = each_stays views id v w at (λ u. AreLasting s' u.lasting) (lastings_evolve s s' views ev k.lasting) (λ p. p);
       cut = cut_stays views id v w at k.m.epoch k.cut refl refl;
       acting = each_stays views id v w at ActsAsPass k.acting (λ p. p);
       apart = apart;

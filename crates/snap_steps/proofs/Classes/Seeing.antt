@@ -32,16 +32,17 @@ use Rattle.snap_steps.proofs.Parts.Uses.{used_stays, cut_stays}
 use Rattle.snap_steps.proofs.Parts.History.{whole_grows}
 use Rattle.snap_steps.specs.Rule.Bases.{KnowsBase}
 use Rattle.snap_steps.specs.Rule.Worn.{KnowsWorn}
+use Rattle.snap_steps.specs.Rule.Lasting.{AreLasting}
 
 -- the view v, in what such a step may change, as w is
 abbrev pub with_sight : View → View → View
-with_sight v w = record v { steps = w.steps; seen = w.seen; joined = w.joined; notes = w.notes; handed = w.handed; epochs = w.epochs; worn = w.worn; knows = w.knows; reached = w.reached; reads = w.reads; present = w.present }
+with_sight v w = record v { steps = w.steps; seen = w.seen; joined = w.joined; notes = w.notes; handed = w.handed; epochs = w.epochs; worn = w.worn; knows = w.knows; refused = w.refused; lasting = w.lasting; reached = w.reached; reads = w.reads; confirmed = w.confirmed; present = w.present }
 
 -- a step that writes no word, after which the pass has seen or knows more
 pub seeing : (about : About) (words : List ℕ) (views : List View) (k : Kept about words views) (i id : ℕ) (v w : View) (at : get_elem? views id ≡ some v)
-    → AreFacts k.m.rows v.holds w.knows → AllLinked k.g.linked w.reached → IsOnWay (state_of k.m k.g) w → KnowsEpoch k.m.epoch (with_sight v w) → KnowsHeader k.m.next k.m.epoch w → KnowsWorn (state_of k.m k.g) w
+    → AreFacts k.m.rows v.holds w.knows → AllLinked k.g.linked w.reached → IsOnWay (state_of k.m k.g) w → KnowsEpoch k.m.epoch (with_sight v w) → KnowsHeader k.m.next k.m.epoch w → KnowsWorn (state_of k.m k.g) w → AreLasting (state_of k.m k.g) w.lasting
     → Begins v.seen w.seen → Begins w.seen k.g.history → AllBegin w.joined k.g.history → Kept about (set words i (get_or words i 0)) (set views id (with_sight v w))
-seeing about words views k i id v w at knows_rows reached way present notes worn more less joined =
+seeing about words views k i id v w at knows_rows reached way present notes worn lasting more less joined =
     let u : View = with_sight v w in record {
       m = k.m;
       g = k.g;
@@ -78,5 +79,6 @@ seeing about words views k i id v w at knows_rows reached way present notes worn
       ways = each_stays views id v u at (IsOnWay (state_of k.m k.g)) k.ways (λ _. way);
       worn = each_stays views id v u at (KnowsWorn (state_of k.m k.g)) k.worn (λ _. worn);
       based = each_stays views id v u at (KnowsBase (state_of k.m k.g)) k.based (λ p. p);
+      lasting = each_stays views id v u at (λ x. AreLasting (state_of k.m k.g) x.lasting) k.lasting (λ _. lasting);
       apart = apart_stays views id v u at k.m.next k.m.next k.m.rows k.g.linked k.apart (omega arith) (λ p. p) (λ p. p);
     }

@@ -23,7 +23,7 @@ use Rattle.snap_steps.specs.Rule.Ways.{AllLinked, IsOnWay}
 use Rattle.snap_steps.specs.Rule.Epochs.{AllAre, KnowsEpoch}
 use Rattle.snap_steps.specs.States.{state_of}
 use Rattle.snap_steps.proofs.Tables.{header_moves, doings_stay, ways_evolve}
-use Rattle.snap_steps.specs.declared.view.HeaderNote.{HeaderNote}
+use Rattle.snap_steps.specs.declared.view.WordNote.{WordNote}
 use Rattle.snap_steps.specs.declared.view.Stage.{Stage}
 use Rattle.snap_steps.proofs.EachView.{each_set, each_stays}
 use Rattle.snap_steps.proofs.Totals.{total-set}
@@ -40,6 +40,8 @@ use Rattle.snap_steps.proofs.Parts.Uses.{used_stays, cut_stays}
 use Rattle.snap_steps.proofs.Parts.Bases.{bases_evolve, CutStays}
 use Rattle.snap_steps.specs.Rule.Bases.{KnowsBase}
 use Rattle.snap_steps.specs.Rule.Worn.{KnowsWorn}
+use Rattle.snap_steps.specs.Rule.Lasting.{AreLasting}
+use Rattle.snap_steps.proofs.Parts.Lasting.{lastings_evolve}
 use Rattle.snap_steps.specs.Rule.Names.{ActsAsPass}
 use Rattle.snap_steps.proofs.Parts.Worn.{worns_evolve}
 use Rattle.snap_steps.specs.Numbers.{all_cuts}
@@ -50,7 +52,7 @@ abbrev pub Rule : About → State (Unit {0}) View → Type 0
 Rule about s = Kept about s.words s.views
 
 -- a step that changes the turn of a pass and its notes, and of the words `gate`, `left` and `done` alone
-pub turning : (about : About) (words : List ℕ) (views : List View) (k : Kept about words views) (id : ℕ) (v : View) (at : get_elem? views id ≡ some v) (words' : List ℕ) (m' : Memory) (notes : List HeaderNote) (handed epochs : ℕ) (stage : Stage) (uses : ℕ) (present : List ℕ)
+pub turning : (about : About) (words : List ℕ) (views : List View) (k : Kept about words views) (id : ℕ) (v : View) (at : get_elem? views id ≡ some v) (words' : List ℕ) (m' : Memory) (notes : List WordNote) (handed epochs : ℕ) (stage : Stage) (uses : ℕ) (present : List ℕ)
     → IsMemory about words' m' → m'.next ≡ k.m.next → m'.epoch ≡ k.m.epoch → IsTrueOfHeader m'.next m'.epoch notes handed epochs
     → m'.done + owes_count stage ≡ k.m.done + owes_count v.stage → m'.done + k.m.left + has_counted v.stage ≤ k.m.done + m'.left + has_counted stage → m'.rows ≡ k.m.rows → ((r : ℕ) → times r v.holds ≤ in_write stage) → AllAre k.m.epoch present × (in_write stage ≡ 0 → present ≡ [])
     → IsGated m'.gate m'.left (set views id (record v { notes = notes; handed = handed; epochs = epochs; stage = stage; uses = uses; present = present }))
@@ -87,13 +89,14 @@ turning about words views k id v at words' m' notes handed epochs stage uses pre
       ways = each_stays views id v w at (IsOnWay (state_of m' (record k.g { writers = total (λ u. in_write u.stage) (set views id w) }))) (ways_evolve (state_of k.m k.g) (state_of m' (record k.g { writers = total (λ u. in_write u.stage) (set views id w) })) views moves.0 k.history.seen k.ways) (λ p. p);
       worn = each_stays views id v w at (KnowsWorn (state_of m' (record k.g { writers = total (λ u. in_write u.stage) (set views id w) }))) (worns_evolve (state_of k.m k.g) (state_of m' (record k.g { writers = total (λ u. in_write u.stage) (set views id w) })) views moves.0 k.worn) (λ p. p);
       based = each_stays views id v w at (KnowsBase (state_of m' (record k.g { writers = total (λ u. in_write u.stage) (set views id w) }))) (bases_evolve about words views k (state_of m' (record k.g { writers = total (λ u. in_write u.stage) (set views id w) })) moves.0) (λ p. (p.0, λ z. let was = cut_stays_so z in let q = p.1 was.0 in (was.1 q.0, q.1)));
+      lasting = each_stays views id v w at (λ u. AreLasting (state_of m' (record k.g { writers = total (λ u. in_write u.stage) (set views id w) })) u.lasting) (lastings_evolve (state_of k.m k.g) (state_of m' (record k.g { writers = total (λ u. in_write u.stage) (set views id w) })) views moves.0 k.lasting) (λ p. p);
       cut = subst (λ e. e ≡ total all_cuts (set views id w)) (sym epoch) (cut_stays views id v w at k.m.epoch k.cut refl refl);
       acting = each_stays views id v w at ActsAsPass k.acting (λ p z. (acts z, (p z).1));
       apart = subst (λ l. AreApart m'.next l k.g.linked (set views id w)) (sym rows) (apart_stays views id v w at k.m.next m'.next k.m.rows k.g.linked k.apart (omega arith) (λ p. p) (λ p. p));
     }
 
 -- a step that writes no word and leaves a true note
-pub noting : (about : About) (words : List ℕ) (views : List View) (k : Kept about words views) (i id : ℕ) (v : View) (n : HeaderNote) → get_elem? views id ≡ some v → IsTrueNote k.m.next k.m.epoch n
+pub noting : (about : About) (words : List ℕ) (views : List View) (k : Kept about words views) (i id : ℕ) (v : View) (n : WordNote) → get_elem? views id ≡ some v → IsTrueNote k.m.next k.m.epoch n
     → Kept about (set words i (get_or words i 0)) (set views id (noted v n))
 noting about words views k i id v n at is =
     turning about words views k id v at (set words i (get_or words i 0)) k.m (v.notes ++ n ∷ []) (handed_after v.handed n) (epochs_after v.epochs n) v.stage v.uses v.present (loaded k.memory i) refl refl (header_more k.m.next k.m.epoch v n (k.notes id v at) is) refl (omega arith) refl (k.locked.writing id v at) (k.present id v at)

@@ -87,7 +87,7 @@ module _ (about : About) (slots id : ℕ) (me : Sat) where
         v,
         keeps,
         tt,
-        seeing about s.words s.views k (word_at 0 Right) id v v at (k.known id v at) (k.reached id v at) (k.ways id v at) (k.present id v at) (k.notes id v at) (k.worn id v at) (begins_itself v.seen) seen.0 seen.1,
+        seeing about s.words s.views k (word_at 0 Right) id v v at (k.known id v at) (k.reached id v at) (k.ways id v at) (k.present id v at) (k.notes id v at) (k.worn id v at) (k.lasting id v at) (begins_itself v.seen) seen.0 seen.1,
         (refl, is ∙ still.1, omega (arith, is, laid, low)),
       )
 
@@ -105,7 +105,7 @@ module _ (about : About) (slots id : ℕ) (me : Sat) where
         v,
         keeps,
         tt,
-        seeing about s.words s.views k (word_at r f) id v v at (k.known id v at) (k.reached id v at) (k.ways id v at) (k.present id v at) (k.notes id v at) (k.worn id v at) (begins_itself v.seen) seen.0 seen.1,
+        seeing about s.words s.views k (word_at r f) id v v at (k.known id v at) (k.reached id v at) (k.ways id v at) (k.present id v at) (k.notes id v at) (k.worn id v at) (k.lasting id v at) (begins_itself v.seen) seen.0 seen.1,
         λ r' f' same. let x = one_word r r' f f' same in (refl, subst (λ (y : ℕ). TellsWord v.rows t y f' found) x.0 (subst (λ (h : Field). TellsWord v.rows t r h found) x.1 tells)),
       )
     where
@@ -121,6 +121,6 @@ module _ (about : About) (slots id : ℕ) (me : Sat) where
         w,
         keeps,
         tt,
-        seeing about s.words s.views k (word_at r Stamp) id v w at (k.known id v at) (k.reached id v at) (k.ways id v at) (k.present id v at) (k.notes id v at) worn (begins_itself v.seen) seen.0 seen.1,
+        seeing about s.words s.views k (word_at r Stamp) id v w at (k.known id v at) (k.reached id v at) (k.ways id v at) (k.present id v at) (k.notes id v at) worn (k.lasting id v at) (begins_itself v.seen) seen.0 seen.1,
         refl,
       )

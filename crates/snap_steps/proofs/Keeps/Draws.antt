@@ -21,7 +21,7 @@ use Rattle.snap_steps.specs.Rule.Epochs.{KnowsEpoch}
 use Rattle.snap_steps.specs.Rule.Words.{KnowsAbout}
 use Rattle.snap_steps.specs.States.{state_of}
 use Rattle.snap_steps.specs.declared.view.View.{View}
-use Rattle.snap_steps.specs.declared.view.HeaderNote.TheVariants.{Next}
+use Rattle.snap_steps.specs.declared.view.WordNote.TheVariants.{Next}
 use Rattle.snap_steps.specs.declared.view.Role.TheVariants.{Passing}
 use Rattle.snap_steps.specs.declared.rule.About.{About}
 use Rattle.snap_steps.proofs.EachView.{each_set, each_stays}
@@ -40,6 +40,7 @@ use Rattle.snap_steps.proofs.Classes.Turning.{Rule, noting}
 use Rattle.snap_steps.specs.Steps.Told.{Sat}
 use Rattle.snap_steps.specs.Rule.Bases.{KnowsBase}
 use Rattle.snap_steps.specs.Rule.Worn.{KnowsWorn}
+use Rattle.snap_steps.specs.Rule.Lasting.{AreLasting}
 use Rattle.snap_steps.specs.Rule.Names.{ActsAsPass}
 
 pub draws : (about : About) (slots id : ℕ) (me : Sat) (found : ℕ) (said : Option (Unit {0})) → found < about.rows → me.0.role ≡ Passing
@@ -73,6 +74,7 @@ draws about slots id me found said room passing s k wide at small =
         ways = each_stays s.views id me.0 w at (IsOnWay (state_of k.m k.g)) k.ways (λ p. p);
         worn = each_stays s.views id me.0 w at (KnowsWorn (state_of k.m k.g)) k.worn (λ p. p);
         based = each_stays s.views id me.0 w at (KnowsBase (state_of k.m k.g)) k.based (λ p. p);
+        lasting = each_stays s.views id me.0 w at (λ u. AreLasting (state_of k.m k.g) u.lasting) k.lasting (λ p. p);
         cut = cut_stays s.views id me.0 w at k.m.epoch k.cut refl refl;
         acting = each_stays s.views id me.0 w at ActsAsPass k.acting (λ p. p);
         named = named_stays s.views id me.0 w at about.passes k.named refl refl refl;
@@ -83,12 +85,12 @@ draws about slots id me found said room passing s k wide at small =
         drawn = subst (λ n. AreDrawn (n + 1) (set s.views id w)) here (drawn_more s.views id me.0 w at k.m.next k.drawn (ap (λ (n : ℕ). me.0.drawn ++ (n + 1) ∷ []) (sym here)));
         notes = each_set s.views id w k.notes (header_later k.m.next (found + 1) k.m.epoch k.m.epoch (omega arith) (omega arith)) (header_later k.m.next (found + 1) k.m.epoch k.m.epoch (omega arith) (omega arith) me.0 (k.notes id me.0 at));
       },
-      ((λ _. refl), (λ miss. absurd (miss hit)), omega arith),
+      (refl, (λ _. refl), (λ miss. absurd (miss hit)), omega arith),
     ))
     (λ miss. (
       noted me.0 (Next r),
       keeps,
       tt,
       noting about s.words s.views k 0 id me.0 (Next r) at (omega arith),
-      ((λ hit. absurd (miss hit)), (λ _. refl), omega arith),
+      (refl, (λ hit. absurd (miss hit)), (λ _. refl), omega arith),
     ))

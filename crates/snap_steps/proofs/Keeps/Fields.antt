@@ -47,6 +47,8 @@ use mathlib.Core.Option as maybe
 use Rattle.snap_steps.proofs.Parts.Bases.{bases_evolve}
 use Rattle.snap_steps.specs.Rule.Bases.{KnowsBase}
 use Rattle.snap_steps.specs.Rule.Worn.{KnowsWorn}
+use Rattle.snap_steps.specs.Rule.Lasting.{AreLasting}
+use Rattle.snap_steps.proofs.Parts.Lasting.{lastings_evolve}
 use Rattle.snap_steps.specs.Rule.Names.{ActsAsPass}
 use Rattle.snap_steps.proofs.Parts.Worn.{worns_evolve, or_cases, last_found}
 
@@ -62,7 +64,7 @@ reads about slots id me r f low s k wide at small =
       tt,
       seeing about s.words s.views k (word_at r f) id v w at facts
           (in_append k.g.linked v.reached (led_to v r f found) (k.reached id v at) (led_in k.m k.g v r f found k.table (k.reached id v at) (sym is))) (k.ways id v at) (k.present id v at)
-          (k.notes id v at) worn (begins_itself v.seen) seen.0 seen.1,
+          (k.notes id v at) worn (k.lasting id v at) (begins_itself v.seen) seen.0 seen.1,
       λ r' f' same. let t = one_word r r' f f' same in ((λ i. (read v (t.0 i) (t.1 i) found, me.1)), λ x there. is ∙ (λ i. field (t.1 i) (row k.m.rows (t.0 i))) ∙ known_is k.m.rows v.holds v.knows r' f' x known there),
     )
 
@@ -104,6 +106,7 @@ stores_own about slots id me r new f low no_lock no_stamp mine s k wide at small
         ways = each_stays s.views id v w at (IsOnWay (state_of (record k.m { rows = changed k.m.rows r f new }) k.g)) (ways_evolve (state_of k.m k.g) (state_of (record k.m { rows = changed k.m.rows r f new }) k.g) s.views moves.0 k.history.seen k.ways) (λ p. p);
         worn = each_stays s.views id v w at (KnowsWorn (state_of (record k.m { rows = changed k.m.rows r f new }) k.g)) (worns_evolve (state_of k.m k.g) (state_of (record k.m { rows = changed k.m.rows r f new }) k.g) s.views moves.0 k.worn) (λ p. p);
         based = each_stays s.views id v w at (KnowsBase (state_of (record k.m { rows = changed k.m.rows r f new }) k.g)) (bases_evolve about s.words s.views k (state_of (record k.m { rows = changed k.m.rows r f new }) k.g) moves.0) (λ p. p);
+        lasting = each_stays s.views id v w at (λ u. AreLasting (state_of (record k.m { rows = changed k.m.rows r f new }) k.g) u.lasting) (lastings_evolve (state_of k.m k.g) (state_of (record k.m { rows = changed k.m.rows r f new }) k.g) s.views moves.0 k.lasting) (λ p. p);
         cut = cut_stays s.views id v w at k.m.epoch k.cut refl refl;
         acting = each_stays s.views id v w at ActsAsPass k.acting (λ p. p);
         apart = record {

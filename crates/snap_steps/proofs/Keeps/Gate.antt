@@ -10,7 +10,7 @@ use Rattle.snap_steps.specs.Steps.Gate.{entered, entering_tried, closed, closing
 use Rattle.snap_steps.specs.Stages.{in_write, is_closing, may_cut, owes_count, has_counted, is_quiet}
 use Rattle.snap_steps.specs.Roles.{own_number, is_counted}
 use Rattle.snap_steps.specs.declared.view.View.{View}
-use Rattle.snap_steps.specs.declared.view.HeaderNote.TheVariants.{Gate}
+use Rattle.snap_steps.specs.declared.view.WordNote.TheVariants.{Gate}
 use Rattle.snap_steps.specs.declared.view.Stage.TheVariants.{Idle, Writing, Closing}
 use Rattle.snap_steps.specs.declared.view.Role.TheVariants.{Passing}
 use Rattle.snap_steps.specs.declared.rule.About.{About}
@@ -41,9 +41,9 @@ enters about slots id me found new said even up idle unused passing s k wide at 
       turning about s.words s.views k id v at (set s.words 1 new) (record k.m { gate = new }) v.notes v.handed v.epochs (Writing false false) (v.uses + 1) v.present (gate_set k.memory new) refl refl (k.notes id v at) (omega (arith, o)) (omega (arith, q)) refl (λ x. omega (arith, k.locked.writing id v at x, a)) ((k.present id v at).0, λ z. absurd (omega (arith, z)))
           (gated_moves s.views id v w at k.m.gate k.m.left new k.m.left g (omega arith) (omega arith) (λ some. absurd (omega (arith, quiets_le (set s.views id w)))) (nobody_closes new (set s.views id w) none_closing))
           (used_moves s.views id v w at k.m.gate k.m.epoch new k.m.epoch k.used refl refl refl (omega arith) (omega (arith, ap (λ r. length (own_number r v.who)) passing))) (omega arith) (λ z. omega arith) (λ z. absurd (omega (arith, z, d))) (λ z. absurd (omega (arith, z))),
-      ((λ _. refl), (λ miss. absurd (miss hit))),
+      (refl, ((λ _. refl), (λ miss. absurd (miss hit)))),
     ))
-    (λ miss. (noted v (Gate r), keeps, tt, noting about s.words s.views k 1 id v (Gate r) at tt, ((λ hit. absurd (miss hit)), (λ _. refl))))
+    (λ miss. (noted v (Gate r), keeps, tt, noting about s.words s.views k 1 id v (Gate r) at tt, (refl, ((λ hit. absurd (miss hit)), (λ _. refl)))))
 
 pub closes : (about : About) (slots id : ℕ) (me : Sat) (found new : ℕ) (said : Option (Unit {0})) → found % 2 ≡ 0 → new ≡ found + 1 → me.0.stage ≡ Idle → me.0.uses < 2 ^ 48 → me.0.role ≡ Passing
     → Allows (Rule about) slots id me 1 (λ n. either (eqb n found) new n) (closing_tried (step slots 1 found new said) me)
@@ -61,9 +61,9 @@ closes about slots id me found new said even up idle unused passing s k wide at 
           (gated_moves s.views id v w at k.m.gate k.m.left new k.m.left g (omega arith) (omega arith) (λ some. absurd (omega (arith, quiets_le s.views, total-set (λ u. is_quiet u.stage) s.views id v w at)))
           (each_set s.views id w (nobody_closes new s.views none_before) (λ u p. p) refl))
           (used_moves s.views id v w at k.m.gate k.m.epoch new k.m.epoch k.used refl refl refl (omega arith) (omega (arith, ap (λ r. length (own_number r v.who)) passing))) (omega arith) (λ z. omega arith) (λ z. absurd (omega (arith, z, d))) (λ z. absurd (omega (arith, z))),
-      ((λ _. refl), (λ miss. absurd (miss hit))),
+      (refl, ((λ _. refl), (λ miss. absurd (miss hit)))),
     ))
-    (λ miss. (noted v (Gate r), keeps, tt, noting about s.words s.views k 1 id v (Gate r) at tt, ((λ hit. absurd (miss hit)), (λ _. refl))))
+    (λ miss. (noted v (Gate r), keeps, tt, noting about s.words s.views k 1 id v (Gate r) at tt, (refl, ((λ hit. absurd (miss hit)), (λ _. refl)))))
 
 pub leaves : (about : About) (slots id : ℕ) (me : Sat) (made counted : Bool) → me.0.stage ≡ Writing made counted → owes_count (Writing made counted) ≡ 0 → me.0.holds ≡ [] → Allows (Rule about) slots id me 2 (λ n. (n + 1) % 2 ^ 64) (ended (step slots 2 1 0 none) me)
 leaves about slots id me made counted writing settled free s k wide at small =

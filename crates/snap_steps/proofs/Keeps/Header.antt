@@ -1,12 +1,12 @@
 -- Loads of the header keep the rule.
-use Rattle.std.proofs.Common.{◌≡◌, ℕ, get_or, refl, ap, arith, ◌/◌, ◌<◌, ⊎_elim, [], ◌∷◌, ◌++◌, set, sym, subst}
+use Rattle.std.proofs.Common.{◌≡◌, ℕ, get_or, refl, ap, ◌∙◌, arith, ◌/◌, ◌<◌, ⊎_elim, [], ◌∷◌, ◌++◌, set, sym, subst}
 use mathlib.Core.Logic.{dite}
 use mathlib.Core.Option.{none}
 use native.Mathlib.Decide.{dec_le}
 use Rattle.atomic_table.specs.Table.{step, keeps, Allows}
 use Rattle.snap_steps.specs.Steps.Header.{noted, next_loaded, gate_loaded, left_seen, left_loaded, saw, done_loaded, epoch_noted, epoch_loaded}
 use Rattle.snap_steps.specs.Roles.{is_live, is_counted}
-use Rattle.snap_steps.specs.declared.view.HeaderNote.TheVariants.{Next, Gate, Left, Done, Epoch}
+use Rattle.snap_steps.specs.declared.view.WordNote.TheVariants.{Next, Gate, Left, Done, Epoch}
 use Rattle.snap_steps.specs.declared.view.Role.TheVariants.{Passing}
 use Rattle.snap_steps.specs.declared.rule.About.{About}
 use Rattle.snap_steps.proofs.Memories.{next_is, loaded, left_is, done_is, epoch_is}
@@ -26,6 +26,7 @@ use Rattle.snap_steps.proofs.Prefixes.{begins_itself}
 use Rattle.snap_steps.proofs.Classes.Seeing.{seeing}
 use Rattle.snap_steps.proofs.Parts.Epochs.{epoch_with}
 use Rattle.snap_steps.proofs.Parts.Bases.{left_cut}
+use Rattle.snap_steps.proofs.Tables.{all_are}
 
 pub loads_next : (about : About) (slots id : ℕ) (me : Sat) → me.0.role ≡ Passing → Allows (Rule about) slots id me 0 (λ n. n) (next_loaded (step slots 0 0 0 none) me)
 loads_next about slots id me passing s k wide at small = let is = next_is k.memory in let room = k.memory.room in let a = (k.about_known id me.0 at (ap is_live passing)).0 in (
@@ -33,11 +34,11 @@ loads_next about slots id me passing s k wide at small = let is = next_is k.memo
   keeps,
   tt,
   noting about s.words s.views k 0 id me.0 (Next (get_or s.words 0 0)) at (omega arith),
-  (refl, omega arith),
+  (refl, refl, omega arith),
 )
 
 pub loads_gate : (about : About) (slots id : ℕ) (me : Sat) → Allows (Rule about) slots id me 1 (λ n. n) (gate_loaded (step slots 1 0 0 none) me)
-loads_gate about slots id me s k wide at small = (noted me.0 (Gate (get_or s.words 1 0)), keeps, tt, noting about s.words s.views k 1 id me.0 (Gate (get_or s.words 1 0)) at tt, refl)
+loads_gate about slots id me s k wide at small = (noted me.0 (Gate (get_or s.words 1 0)), keeps, tt, noting about s.words s.views k 1 id me.0 (Gate (get_or s.words 1 0)) at tt, (refl, refl))
 
 pub loads_left : (about : About) (slots id : ℕ) (me : Sat) → Allows (Rule about) slots id me 2 (λ n. n) (left_loaded (step slots 2 0 0 none) me)
 loads_left about slots id me s k wide at small =
@@ -58,7 +59,7 @@ loads_left about slots id me s k wide at small =
           (gated_moves s.views id v w at k.m.gate k.m.left k.m.gate k.m.left g (omega (arith, same.0, same.1)) (omega (arith, same.1, one)) (λ some. omega (arith, none_writes some, same.0))
           (each_stays s.views id v w at (λ u. IsAt k.m.gate u.stage) g.at (λ p. after_left_at k.m.gate v.stage r p)))
           (used_moves s.views id v w at k.m.gate k.m.epoch k.m.gate k.m.epoch k.used refl refl refl (omega (arith, same.2)) (k.used.few id v at).0) (omega arith) (λ z. omega (arith, same.0)) (λ z. ap (λ st. after_left st r) (k.acting id v at z).0) (left_cut v.stage r),
-      refl,
+      (refl, refl),
     )
 
 pub loads_done : (about : About) (slots id : ℕ) (me : Sat) → me.0.role ≡ Passing → me.0.joined ≡ [] → Allows (Rule about) slots id me 3 (λ n. n) (done_loaded (step slots 3 0 0 none) me)
@@ -68,8 +69,8 @@ loads_done about slots id me passing alone s k wide at small =
       w,
       keeps,
       tt,
-      seeing about s.words s.views k 3 id v w at (k.known id v at) (k.reached id v at) tt (k.present id v at) (header_more k.m.next k.m.epoch v (Done r) (k.notes id v at) tt) (k.worn id v at) seen (begins_itself k.g.history) (subst (λ l. AllBegin l k.g.history) (sym alone) tt),
-      (k.g.history, record { goes_on = seen; legal = k.history.legal; own = sym own.0 }, omega (arith, k.counted.all), refl),
+      seeing about s.words s.views k 3 id v w at (k.known id v at) (k.reached id v at) tt (k.present id v at) (header_more k.m.next k.m.epoch v (Done r) (k.notes id v at) tt) (k.worn id v at) (k.lasting id v at) seen (begins_itself k.g.history) (subst (λ l. AllBegin l k.g.history) (sym alone) tt),
+      (refl, k.g.history, record { goes_on = seen; legal = k.history.legal; own = sym own.0 }, omega (arith, k.counted.all), refl),
     )
 
 pub loads_epoch : (about : About) (slots id : ℕ) (me : Sat) → Allows (Rule about) slots id me 4 (λ n. n) (epoch_loaded (step slots 4 0 0 none) me)
@@ -78,6 +79,6 @@ loads_epoch about slots id me s k wide at small =
       w,
       keeps,
       tt,
-      seeing about s.words s.views k 4 id v w at (k.known id v at) (k.reached id v at) (k.ways id v at) (epoch_with v.stage k.m.epoch r v.present is (k.present id v at)) (header_more k.m.next k.m.epoch v (Epoch r) (k.notes id v at) (omega arith)) (k.worn id v at) (begins_itself v.seen) seen.0 seen.1,
-      refl,
+      seeing about s.words s.views k 4 id v w at (k.known id v at) (k.reached id v at) (k.ways id v at) (epoch_with v.stage k.m.epoch r v.present is (k.present id v at)) (header_more k.m.next k.m.epoch v (Epoch r) (k.notes id v at) (omega arith)) (k.worn id v at) (k.lasting id v at) (begins_itself v.seen) seen.0 seen.1,
+      (refl, refl, λ e some. is ∙ sym (all_are k.m.epoch e v.present (k.present id v at).0 some)),
     )

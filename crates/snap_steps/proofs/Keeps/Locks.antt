@@ -1,5 +1,5 @@
 -- Locking and freeing keep the rule.
-use Rattle.std.proofs.Common.{◌⊎◌, ⊎_elim, ◌≡◌, ◌≢◌, ℕ, ◌+◌, ◌<◌, ◌≤◌, Bool, eqb, ◌∷◌, length, get_or, sym, refl, ap, ◌∙◌, arith, subst}
+use Rattle.std.proofs.Common.{◌⊎◌, ⊎_elim, ◌≡◌, ◌≢◌, ℕ, ◌+◌, ◌<◌, ◌≤◌, Bool, eqb, ◌∷◌, length, get_or, sym, ap, ◌∙◌, arith, subst}
 use lib.ListN.{get_elem?}
 use mathlib.Core.Logic.{dite}
 use mathlib.Core.Option.{some}
@@ -71,11 +71,11 @@ locks about slots id me r new said made counted low up writing free comes s k wi
       λ r' same. let t = one_word r r' Lock Lock same in ((λ _. ap (λ (z : ℕ). (locked v z, me.1)) t.0), (λ miss. absurd (miss hit))),
     ))
     (λ miss. let seen = k.history.seen id v at in (
-      missed v,
+      missed v r found,
       keeps,
       tt,
-      seeing about s.words s.views k (word_at r Lock) id v (missed v) at (k.known id v at) (k.reached id v at) (k.ways id v at) (k.present id v at) (k.notes id v at) (k.worn id v at) (begins_itself v.seen) seen.0 seen.1,
-      λ r' same. ((λ hit. absurd (miss hit)), λ _. refl),
+      seeing about s.words s.views k (word_at r Lock) id v (missed v r found) at (k.known id v at) (k.reached id v at) (k.ways id v at) (k.present id v at) (k.notes id v at) (k.worn id v at) (k.lasting id v at) (begins_itself v.seen) seen.0 seen.1,
+      λ r' same. let t = one_word r r' Lock Lock same in ((λ hit. absurd (miss hit)), λ _. ap (λ (z : ℕ). (missed v z found, me.1)) t.0),
     ))
 
 -- `free_lock`

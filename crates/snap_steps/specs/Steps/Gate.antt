@@ -1,5 +1,5 @@
 -- Entering a write and leaving it, closing the gate, cutting and opening it again.
-use Rattle.std.specs.Prelude.{◌+◌, false, ℕ, [], List, length, ◌∷◌, ◌++◌}
+use Rattle.std.specs.Prelude.{◌≡◌, ◌+◌, false, ℕ, [], List, length, ◌∷◌, ◌++◌}
 use Rattle.atomic_table.specs.Table.{Step}
 use Rattle.snap_model.specs.declared.call.Entry.{Entry}
 use Rattle.snap_rule.specs.declared.reader.Reading.TheVariants.{Resting}
@@ -7,8 +7,9 @@ use Rattle.snap_steps.specs.declared.view.Part.{Part}
 use Rattle.snap_steps.specs.declared.view.View.{View}
 use Rattle.snap_steps.specs.declared.view.Stage.TheVariants.{Writing, Closing, Idle}
 use Rattle.snap_steps.specs.Stages.{after_cut}
+use Rattle.snap_steps.specs.Memory.{gate_at}
 use Rattle.snap_steps.specs.Steps.Header.{noted}
-use Rattle.snap_steps.specs.declared.view.HeaderNote.TheVariants.{Gate}
+use Rattle.snap_steps.specs.declared.view.WordNote.TheVariants.{Gate}
 use Rattle.snap_steps.specs.Steps.Told.{Sat, Tried, Has}
 use Rattle.snap_steps.specs.Histories.{Extends}
 use Rattle.snap_steps.specs.Clones.{parts_of, IsCloneOf, ArePlaced}
@@ -31,10 +32,10 @@ abbrev pub cut_made : View → List Entry → Tree → View
 cut_made v seen image = cut_with v seen (parts_of image)
 
 abbrev pub entering_tried : Step (Unit {0}) → Sat → ℕ → Sat → Type 0
-entering_tried st m r n = Tried st m r n (entered m.0) (noted m.0 (Gate r))
+entering_tried st m r n = (st.word ≡ gate_at) × Tried st m r n (entered m.0) (noted m.0 (Gate r))
 
 abbrev pub closing_tried : Step (Unit {0}) → Sat → ℕ → Sat → Type 0
-closing_tried st m r n = Tried st m r n (closed m.0 st.second) (noted m.0 (Gate r))
+closing_tried st m r n = (st.word ≡ gate_at) × Tried st m r n (closed m.0 st.second) (noted m.0 (Gate r))
 
 abbrev pub ended : Step (Unit {0}) → Sat → ℕ → Sat → Type 0
 ended st m r n = Has m n (idled m.0)

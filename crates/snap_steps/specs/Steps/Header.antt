@@ -1,44 +1,48 @@
--- Loads of the header.
-use Rattle.std.specs.Prelude.{[], ◌∷◌, ◌++◌, List, ℕ, ◌≤◌, length, max}
+-- Loads of the header. Each tells which word it loaded, so that a note is of that word and of no other.
+use Rattle.std.specs.Prelude.{[], ◌∷◌, ◌++◌, List, ℕ, ◌≡◌, ◌≤◌, length, max}
 use Rattle.atomic_table.specs.Table.{Step}
 use Rattle.snap_model.specs.declared.call.Entry.{Entry}
 use Rattle.snap_rule.specs.declared.reader.Reading.TheVariants.{Resting}
 use Rattle.snap_steps.specs.declared.view.View.{View}
-use Rattle.snap_steps.specs.declared.view.HeaderNote.{HeaderNote}
+use Rattle.snap_steps.specs.declared.view.WordNote.{WordNote}
 use Rattle.snap_steps.specs.Stages.{with_epoch, after_left}
-use Rattle.snap_steps.specs.declared.view.HeaderNote.TheVariants.{Next, Gate, Done}
+use Rattle.snap_steps.specs.declared.view.WordNote.TheVariants.{Next, Gate, Done}
 use Rattle.snap_steps.specs.Steps.Told.{Sat, Has}
+use Rattle.snap_steps.specs.Counting.{Among}
 use Rattle.snap_steps.specs.Histories.{Extends}
-use Rattle.snap_steps.specs.declared.view.HeaderNote.TheVariants as notes
+use Rattle.snap_steps.specs.Memory.{next_at, gate_at, left_at, done_at, epoch_at}
+use Rattle.snap_steps.specs.declared.view.WordNote.TheVariants as notes
 
 -- the greatest note of `next` so far, and that of `epoch`
-abbrev pub handed_after : ℕ → HeaderNote → ℕ
+abbrev pub handed_after : ℕ → WordNote → ℕ
 handed_after h (Next n) = max h n
 handed_after h (Gate g) = h
 handed_after h (notes.Left a) = h
 handed_after h (Done d) = h
 handed_after h (notes.Epoch e) = h
+handed_after h (notes.Birth k b) = h
 
-abbrev pub epochs_after : ℕ → HeaderNote → ℕ
+abbrev pub epochs_after : ℕ → WordNote → ℕ
 epochs_after h (Next n) = h
 epochs_after h (Gate g) = h
 epochs_after h (notes.Left a) = h
 epochs_after h (Done d) = h
 epochs_after h (notes.Epoch e) = max h e
+epochs_after h (notes.Birth k b) = h
 
-abbrev pub noted : View → HeaderNote → View
+abbrev pub noted : View → WordNote → View
 noted v n = record v { notes = v.notes ++ n ∷ []; handed = handed_after v.handed n; epochs = epochs_after v.epochs n }
 
 -- several notes more, in their order
-abbrev pub all_handed : ℕ → List HeaderNote → ℕ
+abbrev pub all_handed : ℕ → List WordNote → ℕ
 all_handed h [] = h
 all_handed h (n ∷ ns) = all_handed (handed_after h n) ns
 
-abbrev pub all_epochs : ℕ → List HeaderNote → ℕ
+abbrev pub all_epochs : ℕ → List WordNote → ℕ
 all_epochs h [] = h
 all_epochs h (n ∷ ns) = all_epochs (epochs_after h n) ns
 
-abbrev pub all_noted : View → List HeaderNote → View
+abbrev pub all_noted : View → List WordNote → View
 all_noted v l = record v { notes = v.notes ++ l; handed = all_handed v.handed l; epochs = all_epochs v.epochs l }
 
 abbrev pub saw : View → List Entry → View
@@ -52,16 +56,16 @@ abbrev pub left_seen : View → ℕ → View
 left_seen v r = record (noted v (notes.Left r)) { stage = after_left v.stage r }
 
 abbrev pub next_loaded : Step (Unit {0}) → Sat → ℕ → Sat → Type 0
-next_loaded st m r n = Has m n (noted m.0 (Next r)) × (r ≤ m.0.rows)
+next_loaded st m r n = (st.word ≡ next_at) × Has m n (noted m.0 (Next r)) × (r ≤ m.0.rows)
 
 abbrev pub gate_loaded : Step (Unit {0}) → Sat → ℕ → Sat → Type 0
-gate_loaded st m r n = Has m n (noted m.0 (Gate r))
+gate_loaded st m r n = (st.word ≡ gate_at) × Has m n (noted m.0 (Gate r))
 
 abbrev pub left_loaded : Step (Unit {0}) → Sat → ℕ → Sat → Type 0
-left_loaded st m r n = Has m n (left_seen m.0 r)
+left_loaded st m r n = (st.word ≡ left_at) × Has m n (left_seen m.0 r)
 
 abbrev pub done_loaded : Step (Unit {0}) → Sat → ℕ → Sat → Type 0
-done_loaded st m r n = (seen : List Entry) × Extends m.0 seen × (r ≤ length seen) × Has m n (noted (saw m.0 seen) (Done r))
+done_loaded st m r n = (st.word ≡ done_at) × (seen : List Entry) × Extends m.0 seen × (r ≤ length seen) × Has m n (noted (saw m.0 seen) (Done r))
 
 abbrev pub epoch_loaded : Step (Unit {0}) → Sat → ℕ → Sat → Type 0
-epoch_loaded st m r n = Has m n (epoch_noted m.0 r)
+epoch_loaded st m r n = (st.word ≡ epoch_at) × Has m n (epoch_noted m.0 r) × ((e : ℕ) → Among e m.0.present → r ≡ e)

@@ -13,14 +13,15 @@ use Rattle.snap_stamp.specs.declared.layout.Field.TheVariants.{Key, Stamp, Value
 use Rattle.snap_steps.specs.declared.view.View.{View}
 use Rattle.snap_steps.specs.States.{link_field}
 use Rattle.snap_steps.specs.Steps.Header.{noted}
-use Rattle.snap_steps.specs.declared.view.HeaderNote.TheVariants.{Done}
+use Rattle.snap_steps.specs.declared.view.WordNote.TheVariants.{Done}
+use Rattle.snap_steps.specs.Memory.{done_at}
 use Rattle.snap_steps.specs.Steps.Told.{Sat, Has}
 use Rattle.snap_steps.specs.Histories.{Extends}
 use Rattle.snap_stamp.specs.declared.side.Side.TheVariants as sides
 
 -- a reader sets out for a key from row 0
 abbrev pub set_out_for : View → List Entry → ℕ → View
-set_out_for v seen key = record v { seen = seen; reads = On key (Standing 0 0 sides.Right) }
+set_out_for v seen key = record v { seen = seen; reads = On key (Standing 0 0 sides.Right); confirmed = [] }
 
 -- where the reader is once it has loaded its next word: at row 0 again where a word is another than it must be
 abbrev pub next_point : ℕ → Point → ℕ → Reading
@@ -69,9 +70,24 @@ abbrev pub comes_to : Reading → ℕ → List ℕ
 comes_to Resting x = []
 comes_to (On k t) x = led_by t x
 
+-- the row to which all checks led the reader, once it has loaded its next word
+abbrev pub confirmed_by : Point → ℕ → List ℕ → List ℕ
+confirmed_by (Standing n v d) x l = []
+confirmed_by (NoLink n v d) x l = []
+confirmed_by (Linked n v d c) x l = []
+confirmed_by (Stamped n v d c w) x l = []
+confirmed_by (Relinked n v c w) x l = cond (x == v) (c ∷ []) []
+confirmed_by (Confirmed c w) x l = l
+confirmed_by ConfirmedNone x l = []
+confirmed_by (Matched c) x l = []
+
+abbrev pub now_confirmed : Reading → ℕ → List ℕ → List ℕ
+now_confirmed Resting x l = []
+now_confirmed (On k t) x l = confirmed_by t x l
+
 -- the reader loaded its next word: where that is a link, the pass has reached the row to which it leads
 abbrev pub read_on : View → ℕ → View
-read_on v x = record v { steps = v.steps + 1; reads = goes_on v.reads x; reached = v.reached ++ comes_to v.reads x }
+read_on v x = record v { steps = v.steps + 1; reads = goes_on v.reads x; confirmed = now_confirmed v.reads x v.confirmed; reached = v.reached ++ comes_to v.reads x }
 
 -- the word that the reader loads next, where its answer comes later
 abbrev pub IsNext : Point → ℕ → Field → Type 0
@@ -130,7 +146,7 @@ HasAnswer Resting x h = Unit {0}
 HasAnswer (On k t) x h = Answers k t x h
 
 abbrev pub way_begun : ℕ → Step (Unit {0}) → Sat → ℕ → Sat → Type 0
-way_begun key st m r n = (seen : List Entry) × Extends m.0 seen × (r ≤ length seen) × Has m n (set_out_for (noted m.0 (Done r)) seen key)
+way_begun key st m r n = (st.word ≡ done_at) × (seen : List Entry) × Extends m.0 seen × (r ≤ length seen) × Has m n (set_out_for (noted m.0 (Done r)) seen key)
 
 abbrev pub next_read : Step (Unit {0}) → Sat → ℕ → Sat → Type 0
 next_read st m r n = Has m n (read_on m.0 r) × HasBound m.0 r

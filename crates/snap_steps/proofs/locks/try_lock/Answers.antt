@@ -27,12 +27,12 @@ pub invariant_of-pass : goal.invariant_of-pass
 invariant_of-pass c = let t = c.compare_exchange-found.ensures.2 c.args.row c.index_of-word.ensures in let m = c.pass.inside.seat.me in
     elim c.if-found-eq0.branch [
       | then-found-eq0 w ↦ stays_pass m c.compare_exchange-found.new.seat.me (locked m.0 c.args.row) c.pass.inside.who c.pass.inside.uses c.pass.inside.added c.pass.inside.taken c.pass.inside.added c.pass.inside.taken c.pass.invariant (t.0 w.if-found-eq0.true) refl refl refl refl (same_pairs c.pass.inside.seat.me.0 (locked m.0 c.args.row) c.pass.inside.added c.pass.inside.taken refl refl c.pass.invariant.pairs)
-      | else-found-eq0 w ↦ stays_pass m c.compare_exchange-found.new.seat.me (missed m.0) c.pass.inside.who c.pass.inside.uses c.pass.inside.added c.pass.inside.taken c.pass.inside.added c.pass.inside.taken c.pass.invariant (t.1 w.if-found-eq0.false) refl refl refl refl (same_pairs c.pass.inside.seat.me.0 (missed m.0) c.pass.inside.added c.pass.inside.taken refl refl c.pass.invariant.pairs)
+      | else-found-eq0 w ↦ stays_pass m c.compare_exchange-found.new.seat.me (missed m.0 c.args.row c.compare_exchange-found.result) c.pass.inside.who c.pass.inside.uses c.pass.inside.added c.pass.inside.taken c.pass.inside.added c.pass.inside.taken c.pass.invariant (t.1 w.if-found-eq0.false) refl refl refl refl (same_pairs c.pass.inside.seat.me.0 (missed m.0 c.args.row c.compare_exchange-found.result) c.pass.inside.added c.pass.inside.taken refl refl c.pass.invariant.pairs)
     ]
 
 pub returns : goal.returns
-returns c = let t = c.compare_exchange-found.ensures.2 c.args.row c.index_of-word.ensures in let m = c.pass.inside.seat.me in
+returns c = let t = c.compare_exchange-found.ensures.2 c.args.row c.index_of-word.ensures in let m = c.pass.inside.seat.me in let word = c.compare_exchange-found.result in
     elim c.if-found-eq0.branch [
       | then-found-eq0 w ↦ rw w.result-is (becomes c.args.pass.now c.pass.inside.seat.table_id c.compare_exchange-found.new.seat.table_id m c.compare_exchange-found.new.seat.me (λ (v : View). locked v c.args.row) c.pass.view_is c.compare_exchange-found.ensures.0 (t.0 w.if-found-eq0.true))
-      | else-found-eq0 w ↦ rw w.result-is (becomes c.args.pass.now c.pass.inside.seat.table_id c.compare_exchange-found.new.seat.table_id m c.compare_exchange-found.new.seat.me (λ (v : View). missed v) c.pass.view_is c.compare_exchange-found.ensures.0 (t.1 w.if-found-eq0.false))
+      | else-found-eq0 w ↦ rw w.result-is (word, w.if-found-eq0.false, becomes c.args.pass.now c.pass.inside.seat.table_id c.compare_exchange-found.new.seat.table_id m c.compare_exchange-found.new.seat.me (λ (v : View). missed v c.args.row word) c.pass.view_is c.compare_exchange-found.ensures.0 (t.1 w.if-found-eq0.false))
     ]

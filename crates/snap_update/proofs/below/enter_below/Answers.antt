@@ -1,12 +1,11 @@
-use Rattle.std.proofs.Common.{rules, ◌≡◌, ◌∙◌, ap, subst, sym, [], ◌∷◌, ℕ}
+use Rattle.std.proofs.Common.{rules, ◌≡◌, ◌∙◌, ap, subst, sym, [], ◌∷◌}
 use Rattle.snap_model.specs.History.{call_key}
 use Rattle.snap_model.specs.declared.call.Call.{Call}
-use Rattle.snap_model.specs.declared.call.Call.TheVariants.{Put, Remove}
+use Rattle.snap_model.specs.declared.call.Call.TheVariants.{Put}
 use Rattle.snap_rule.specs.declared.reader.Point.TheVariants.{NoLink}
 use Rattle.snap_rule.specs.declared.reader.Reading.TheVariants.{On}
-use Rattle.snap_search.specs.Work.{Works}
 use Rattle.snap_search.proofs.Working.{works_on, word_works}
-use Rattle.snap_steps.specs.declared.view.HeaderNote.TheVariants.{Epoch}
+use Rattle.snap_steps.specs.declared.view.WordNote.TheVariants.{Epoch}
 use Rattle.snap_update.specs.Attempts.{Attempts}
 use Rattle.snap_update.proofs.Filling.{places}
 use Rattle.snap_update.proofs.Trying.{attempts_after}

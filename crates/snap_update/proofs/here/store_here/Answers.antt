@@ -1,4 +1,4 @@
-use Rattle.std.proofs.Common.{rules, ◌≡◌, ◌≢◌, ◌∙◌, ◌+◌, ap, subst, sym, [], ◌∷◌, ℕ, None, Option, add-one, arith}
+use Rattle.std.proofs.Common.{rules, ◌≡◌, ◌∙◌, ◌+◌, ap, subst, sym, [], ◌∷◌, ℕ, None, Option, add-one}
 use Rattle.snap_model.specs.declared.call.Call.{Call}
 use Rattle.snap_model.specs.declared.call.Call.TheVariants.{Put, Remove}
 use Rattle.snap_rule.specs.Tree.{value_of}
@@ -7,8 +7,7 @@ use Rattle.snap_search.proofs.Working.{works_on, word_works}
 use Rattle.snap_stamp.specs.declared.layout.Field.TheVariants.{Key, Value}
 use Rattle.snap_steps.specs.Seen.{Known}
 use Rattle.snap_steps.specs.Steps.Writes.{call_of}
-use Rattle.snap_steps.specs.declared.view.HeaderNote.{HeaderNote}
-use Rattle.snap_steps.specs.declared.view.HeaderNote.TheVariants.{Epoch}
+use Rattle.snap_steps.specs.declared.view.WordNote.TheVariants.{Epoch}
 use Rattle.snap_update.specs.Answers.{Writes}
 use Rattle.snap_update.specs.Held.{IsStill}
 use Rattle.snap_update.proofs.Entering.{stores_here, confirms_here, writes_after}

@@ -1,7 +1,6 @@
 use Rattle.std.proofs.Common.{◌++◌}
 use Rattle.snap_search.proofs.Working.{works_on}
-use Rattle.snap_steps.specs.declared.view.HeaderNote.TheVariants.{Epoch}
-use Rattle.snap_update.proofs.Entering.{writes_after, refused_after, among_right}
+use Rattle.snap_update.proofs.Entering.{writes_after, refused_later}
 use Rattle.snap_update.proofs.writing.write.Goals as goal
 
 pub returns-in-Made : goal.returns-in-Made
@@ -11,4 +10,4 @@ pub loop-preserved : goal.loop-preserved
 loop-preserved g c = let w = c.loop.invariant.2 in let h = c.in-Again.ensures in (tt, tt, (w.0 ++ h.0, works_on c.args.pass.now c.loop.pass c.try_write.new.pass w.0 h.0 w.1 h.1))
 
 pub returns-in-Refused : goal.returns-in-Refused
-returns-in-Refused g c = let w = c.loop.invariant.2 in let h = c.in-Refused.ensures in let r = h.1 in (h.0, refused_after c.args.rows.now.rows c.args.pass.now c.loop.pass c.try_write.new.pass w.0 c.args.call.now r.epoch w.1 r.refuses (among_right (Epoch r.epoch) w.0 r.refuses.more r.noted))
+returns-in-Refused g c = let w = c.loop.invariant.2 in let h = c.in-Refused.ensures in (h.0, refused_later c.args.rows.now.rows c.args.pass.now c.loop.pass c.try_write.new.pass w.0 c.args.call.now w.1 h.1)
