@@ -1,5 +1,5 @@
 -- A write at a row that it holds.
-use Rattle.std.specs.Prelude.{◌≡◌, ◌⊎◌, ℕ, ◌<◌, [], ◌∷◌, false}
+use Rattle.std.specs.Prelude.{◌≡◌, ◌⊎◌, ℕ, ◌<◌, [], ◌∷◌, false, List}
 use Rattle.snap_rule.specs.declared.change.Doing.TheVariants.{Nothing}
 use Rattle.snap_search.specs.Work.{Works}
 use Rattle.snap_stamp.specs.declared.layout.Field.TheVariants.{Stamp}
@@ -11,7 +11,6 @@ use Rattle.snap_steps.specs.declared.view.Fact.{Fact}
 use Rattle.snap_steps.specs.declared.view.WordNote.TheVariants.{Epoch}
 use Rattle.snap_steps.specs.declared.view.Stage.TheVariants.{Writing}
 use Rattle.snap_steps.specs.declared.view.View.{View}
-use Rattle.std.specs.Prelude.{List}
 
 -- in a write without its entry, and no row is held
 pub record IsReady (v : View) : Type 0 where

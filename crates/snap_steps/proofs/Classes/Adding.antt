@@ -104,6 +104,7 @@ silent_more about words views k rows passes seen handed epochs noted_worn base l
   reached = each_more views u k.reached (λ x p. p) tt;
   ways = each_more views u k.ways (λ x p. p) tt;
   worn = each_more views u k.worn (λ x p. p) is_worn;
+  lasting = each_more views u k.lasting (λ x p. p) tt;
   based = each_more views u k.based (λ x p. p) (is_base, λ z. absurd (omega (arith, z)));
   lasting = each_more views u k.lasting (λ x p. p) tt;
   cut = omega (arith, k.cut, total_more all_cuts views u);

@@ -1,0 +1,27 @@
+//! Keys as if by lot.
+
+/// How many different keys there are.
+pub const KEYS: u64 = 10_000;
+
+/// Keys below `KEYS`, each as likely as any other, the same for the same seed.
+#[derive(Drop)]
+pub struct Keys {
+    state: u64,
+}
+
+impl Keys {
+    pub fn new(seed: u64) -> Keys {
+        Keys {
+            state: seed.wrapping_mul(0x9e37_79b9_7f4a_7c15),
+        }
+    }
+
+    /// The next key: the upper half of a linear congruential sequence.
+    pub fn draw(&mut self) -> u64 {
+        self.state = self
+            .state
+            .wrapping_mul(6_364_136_223_846_793_005)
+            .wrapping_add(1_442_695_040_888_963_407);
+        (self.state >> 33) % KEYS
+    }
+}

@@ -1,0 +1,110 @@
+//! What a thread works with: its own way into a map that it shares with the others.
+ghost use Rattle.snap_bench.specs.Passes.{IsAtRest};
+
+use crate::fault::Fault;
+use snap_table::{Pass, SnapTable};
+use std::alloc::Global;
+use std::collections::BTreeMap;
+use std::sync::{Mutex, RwLock, Wait};
+
+pub type Sorted = BTreeMap<u64, u64>;
+
+pub trait Worker<R> {
+    /// Sets the key to the value, and answers the value before.
+    fn put(&mut self, rt: &R, key: u64, value: u64) -> Result<Option<u64>, Fault>;
+
+    /// Takes the key out, and answers the value before.
+    fn remove(&mut self, rt: &R, key: u64) -> Result<Option<u64>, Fault>;
+
+    /// The value at the key.
+    fn get(&mut self, rt: &R, key: u64) -> Option<u64>;
+}
+
+/// A pass of a table.
+#[derive(Drop)]
+pub struct OfTable<'t> {
+    table: &'t SnapTable,
+    pass: Pass,
+    ghost at_rest: { IsAtRest table.now pass },
+}
+
+impl<'t> OfTable<'t> {
+    pub fn new(table: &'t SnapTable, pass: Pass) -> OfTable<'t>
+        requires { IsAtRest table.now pass }
+    {
+        OfTable { table, pass }
+    }
+}
+
+/// How many uses a pass may have.
+const MOST_USES: u64 = 1 << 48;
+
+impl<'t, R: Wait> Worker<R> for OfTable<'t> {
+    fn put(&mut self, rt: &R, key: u64, value: u64) -> Result<Option<u64>, Fault> {
+        if self.pass.uses() >= MOST_USES || value == u64::MAX {
+            return Err(Fault::Out);
+        }
+        Ok(self.table.put(rt, &mut self.pass, key, value)?)
+    }
+
+    fn remove(&mut self, rt: &R, key: u64) -> Result<Option<u64>, Fault> {
+        if self.pass.uses() >= MOST_USES {
+            return Err(Fault::Out);
+        }
+        Ok(self.table.remove(rt, &mut self.pass, key)?)
+    }
+
+    fn get(&mut self, rt: &R, key: u64) -> Option<u64> {
+        self.table.get(rt, &mut self.pass, key)
+    }
+}
+
+/// A sorted map under a lock for one at a time.
+#[derive(Drop)]
+pub struct OfMutex<'m> {
+    pub map: &'m Mutex<Sorted>,
+}
+
+impl<'m, R: Wait> Worker<R> for OfMutex<'m> {
+    fn put(&mut self, rt: &R, key: u64, value: u64) -> Result<Option<u64>, Fault> {
+        match self.map.lock(rt).insert(key, value) {
+            Ok(before) => Ok(before),
+            Err(_) => Err(Fault::Memory),
+        }
+    }
+
+    fn remove(&mut self, rt: &R, key: u64) -> Result<Option<u64>, Fault> {
+        let mut map = self.map.lock(rt);
+        Ok(Sorted::remove(&mut map, &key))
+    }
+
+    fn get(&mut self, rt: &R, key: u64) -> Option<u64> {
+        let map = self.map.lock(rt);
+        Sorted::get(&map, &key).copied()
+    }
+}
+
+/// A sorted map under a lock that readers share.
+#[derive(Drop)]
+pub struct OfRwLock<'m> {
+    pub map: &'m RwLock<Sorted>,
+}
+
+impl<'m, R: Wait> Worker<R> for OfRwLock<'m> {
+    fn put(&mut self, rt: &R, key: u64, value: u64) -> Result<Option<u64>, Fault> {
+        match self.map.write(rt).insert(key, value) {
+            Ok(before) => Ok(before),
+            Err(_) => Err(Fault::Memory),
+        }
+    }
+
+    fn remove(&mut self, rt: &R, key: u64) -> Result<Option<u64>, Fault> {
+        let mut map = self.map.write(rt);
+        Ok(Sorted::remove(&mut map, &key))
+    }
+
+    fn get(&mut self, rt: &R, key: u64) -> Option<u64> {
+        let map = self.map.read(rt);
+        Sorted::get(&map, &key).copied()
+    }
+}
