@@ -106,7 +106,6 @@ silent_more about words views k rows passes seen handed epochs noted_worn base l
   worn = each_more views u k.worn (λ x p. p) is_worn;
   lasting = each_more views u k.lasting (λ x p. p) tt;
   based = each_more views u k.based (λ x p. p) (is_base, λ z. absurd (omega (arith, z)));
-  lasting = each_more views u k.lasting (λ x p. p) tt;
   cut = omega (arith, k.cut, total_more all_cuts views u);
   acting = each_more views u k.acting (λ x p. p) (λ _. (refl, refl));
   apart = record { low = k.apart.low; own = each_more views u k.apart.own (λ x p. p) (λ r l. absurd (omega arith)); fresh = k.apart.fresh; wrote = each_more views u k.apart.wrote (λ x p. p) tt };
