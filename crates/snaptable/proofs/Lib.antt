@@ -4,6 +4,7 @@ pub mod Endings
 pub mod Languages
 pub mod Written
 pub mod Generated
+pub mod MadeRuns
 pub mod Outputs
 pub mod Jobs
 mod Examples

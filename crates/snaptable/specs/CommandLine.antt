@@ -8,7 +8,7 @@ use Rattle.clap.specs.declared.builder.ArgAction.TheVariants.{Append, Set}
 abbrev pub Text : Type 0
 Text = List ℕ
 
--- an option with one value, given at most once
+-- an option by its long name: it may be used once, and takes one value
 abbrev pub option_rule : Text → Rule
 option_rule name = record (new_rule name) { long = Some name; action = Some Set }
 
@@ -19,7 +19,7 @@ scripts_rule name = record (new_rule name) {
   range = Some (record { start_inclusive = 1; end_inclusive = usize_max });
 }
 
--- the command, whose words are those behind the program's own name
+-- the command before it has arguments; the program's own name is none of its words
 abbrev pub bare_command : App
 bare_command = on_top (λ s. record s { no_binary_name = true }) (new_app (codes "snaptable"))
 

@@ -1,7 +1,10 @@
 -- Scripts that are made up: a sequence of numbers, and the commands that it gives to each worker.
-use Rattle.std.specs.Prelude.{◌+◌, ◌*◌, ◌/◌, ◌%◌, ◌^◌, ◌-◌, ◌==◌, ℕ, zero, suc, nat_lt, List, [], ◌∷◌, ◌++◌, codes, if◌then◌else◌}
+use Rattle.std.specs.Prelude.{◌≡◌, ◌<◌, ◌+◌, ◌*◌, ◌/◌, ◌%◌, ◌^◌, ◌-◌, ◌==◌, ℕ, zero, suc, nat_lt, List, [], ◌∷◌, ◌++◌, None, codes, length, map, if◌then◌else◌}
 use Rattle.snap_model.specs.declared.command.Command.{Command}
 use Rattle.snap_model.specs.declared.command.Command.TheVariants as command
+use Rattle.snap_service.specs.LoadFiles.{Loads}
+use Rattle.snap_service.specs.Runs.{CanRunAll}
+use Rattle.snap_service.specs.States.{State, clone_at}
 use Rattle.snap_text.specs.declared.script.Line.{Line}
 
 -- the number that follows another
@@ -59,3 +62,12 @@ lines_from n (c ∷ cs) = record { line = n; command = c } ∷ lines_from (n + 1
 -- the script that is made for a worker
 abbrev pub made_script : ℕ → ℕ → ℕ → ℕ → List Line
 made_script commands seed workers worker = lines_from 1 (first_commands seed workers worker (share_of commands workers worker))
+
+-- the first slot of a session is there and free
+pub record HasRoom (s : State) : Type 0 where
+  pub place : 0 < length s.clones
+  pub free : clone_at s 0 ≡ None
+
+-- a script that can be run in each such session
+abbrev pub RunsWithRoom : List Line → Type 0
+RunsWithRoom lines = (s : State) (loads : Loads) → HasRoom s → CanRunAll s loads (map (λ line. line.command) lines)

@@ -45,6 +45,7 @@ pub fn accept<S: Shelf>(alloc: Global, words: &[String], shelf: &mut S) -> Resul
     ensures writes { S.write_faults shelf.new ≡ S.write_faults shelf.old }
 {
     let job = read_words(alloc, words)?;
+    // A script that is made can't be run yet.
     let Some(name) = script_of(&job) else {
         return Err(Stop::Script);
     };

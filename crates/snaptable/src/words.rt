@@ -5,7 +5,7 @@ ghost use Rattle.snaptable.specs.Givens.{given_by};
 ghost use Rattle.snaptable.specs.Words.{IsReady, job_in, job_of};
 
 use crate::checking::{Numbers, check};
-use crate::command_line::{Given, parse};
+use crate::command_line::{Given, match_words};
 use snap_model::{Name, OutOfMemory};
 use std::alloc::{AllocError, Global};
 use std::marker::Model;
@@ -135,7 +135,7 @@ pub fn read_words(alloc: Global, words: &[String]) -> Result<Job, WordsFault>
     // A job that is answered is one that a run can do.
     ensures ready { IfOk result (IsReady (map string_bytes words.now)) }
 {
-    let matches = parse(alloc, words)?;
+    let matches = match_words(alloc, words)?;
     let given = Given::of(&matches);
     let numbers = check(&given)?;
     Ok(job_for(alloc, &given, numbers)?)

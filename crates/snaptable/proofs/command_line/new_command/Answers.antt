@@ -3,7 +3,7 @@ use Rattle.std.proofs.lemmas.Result.{IfOk-weaker}
 use Rattle.clap.specs.Simple.{app_of_fields, on_top}
 use Rattle.clap.specs.Words.{app_of, with_rule}
 use Rattle.snaptable.specs.CommandLine.{bare_command}
-use Rattle.snaptable.proofs.command_line.command_line.Goals as goal
+use Rattle.snaptable.proofs.command_line.new_command.Goals as goal
 
 -- each step adds the rule of its argument
 pub returns : goal.returns
