@@ -1,6 +1,11 @@
-pub mod Commands
 pub mod Fronts
-pub mod Endings
-pub mod Languages
+pub mod Names
+pub mod Known
+pub mod Walking
+pub mod Commands
+pub mod Summaries
+pub mod Gathered
 pub mod Written
+pub mod Endings
+pub mod Carried
 mod Examples

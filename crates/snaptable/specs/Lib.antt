@@ -1,6 +1,9 @@
 pub mod Words
 pub mod Reading
+pub mod Needs
+pub mod Walks
 pub mod Stops
 pub mod Replies
 pub mod Printed
+pub mod Inputs
 pub mod Outcomes

@@ -3,12 +3,16 @@
 
 mod accepting;
 mod carrying;
+mod loading;
+mod needs;
 mod outcome;
 mod reading;
 mod run;
 mod summary;
+mod telling;
 mod words;
 mod worker;
+mod writing;
 
 use run::run;
 use snap_io::{DiskShelf, FreeTurn, StdSink};
