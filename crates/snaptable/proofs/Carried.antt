@@ -1,16 +1,16 @@
 -- How a plan is carried out, from what its writes did.
-use Rattle.std.specs.Prelude.{◌||◌, map, bytes_eq, IfErr, OnOk, ⊤}
-use Rattle.std.proofs.Common.{◌≡◌, ◌≤◌, ℕ, Bool, true, false, List, [], ◌∷◌, ◌++◌, length, Option, Some, None, Result, Ok, Err, refl, sym, ◌∙◌, ap, subst}
+use Rattle.std.specs.Prelude.{◌||◌, bytes_eq, IfErr, OnOk}
+use Rattle.std.proofs.Common.{◌≡◌, ℕ, Bool, true, false, List, [], ◌∷◌, ◌++◌, Option, None, Result, Ok, Err, refl, sym, ◌∙◌, ap, subst}
 use Rattle.std.proofs.lemmas.Slice.Eq.{bytes_eq-Decides}
-use Rattle.snap_io.specs.Shelves.{Files, Changes, Creates, Appends}
+use Rattle.snap_io.specs.Shelves.{Files, Changes}
 use Rattle.snap_text.specs.declared.script.Line.{Line}
 use Rattle.snap_service.specs.LoadFiles.{Loads}
 use Rattle.snaptable.specs.declared.outcome.Stop.{Stop}
 use Rattle.snaptable.specs.declared.outcome.Stop.TheVariants as stop
-use Rattle.snaptable.specs.Needs.{AllNew, among, commands_of, exports_named, passed_in}
+use Rattle.snaptable.specs.Needs.{AllNew, among, commands_of, passed_in}
 use Rattle.snaptable.specs.Stops.{IsUnwritten, IsUnwrittenOf}
 use Rattle.snaptable.specs.Replies.{Outputs, Plan, exports_of, outputs_of, reply_file, state_before}
-use Rattle.snaptable.specs.Printed.{summary, summary_of}
+use Rattle.snaptable.specs.Printed.{summary}
 use Rattle.snaptable.specs.Outcomes.{Adds, AddsPart, HasBegun, HasWritten, IsBrokenOff, IsDone, IsPrintStop, plan_of}
 use Rattle.snaptable.proofs.Commands.{files_of_exports}
 use Rattle.snaptable.proofs.Names.{bytes_same}

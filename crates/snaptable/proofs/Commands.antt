@@ -1,5 +1,5 @@
 -- Commands one by one: what one more adds to the replies and the exports.
-use Rattle.std.proofs.Common.{◌≡◌, ℕ, List, [], ◌∷◌, ◌++◌, length, map, refl, sym, ◌∙◌, ap, append_assoc, append-nil}
+use Rattle.std.proofs.Common.{◌≡◌, ℕ, List, [], ◌∷◌, ◌++◌, map, refl, sym, ◌∙◌, ap, append_assoc, append-nil}
 use Rattle.snap_model.specs.declared.command.Command.{Command}
 use Rattle.snap_model.specs.declared.command.Command.TheVariants as command
 use Rattle.snap_text.specs.declared.script.Line.{Line}

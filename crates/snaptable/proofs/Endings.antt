@@ -1,6 +1,6 @@
 -- How a run ends, by what was found on the way.
-use Rattle.std.specs.Prelude.{◌||◌, map, bytes_eq, fold, unwrap_or, IsErr, ⊤}
-use Rattle.std.proofs.Common.{◌≡◌, ◌≤◌, ◌⊎◌, ℕ, Bool, true, false, List, [], ◌∷◌, ◌++◌, length, Option, Some, None, Result, Ok, Err, refl, sym, ◌∙◌, ap, subst, inl, inr, append-nil, arith}
+use Rattle.std.specs.Prelude.{◌||◌, bytes_eq, fold, unwrap_or, IsErr, ⊤}
+use Rattle.std.proofs.Common.{◌≡◌, ◌⊎◌, ℕ, Bool, true, false, List, [], ◌∷◌, Option, Some, None, Result, Ok, Err, refl, sym, ◌∙◌, ap, subst, inl, inr, arith}
 use Rattle.snap_io.specs.Shelves.{Files, IfTold}
 use Rattle.snap_text.specs.declared.fault.ScriptFault.{ScriptFault}
 use Rattle.snap_text.specs.declared.script.Line.{Line}
@@ -20,10 +20,9 @@ use Rattle.snaptable.specs.Stops.{status_of, stop_of_words}
 use Rattle.snaptable.specs.Replies.{Plan, reply_name}
 use Rattle.snaptable.specs.Inputs.{IsLimitStop, IsPastWords, StopsBy, and_then, lines_in, lines_of, loads_in, or_passed, or_refused, unless_missing, with_load, with_pairs, within_limits, first_missing, loads_there}
 use Rattle.snaptable.specs.Printed.{stop_text}
-use Rattle.snaptable.specs.Outcomes.{ForPlan, HasStatus, IsBrokenOff, IsOfWords, IsRefusedBy, IsStop, IsStopped, IsUntouched, StopsFor, Tells, ending_of, ending_of_job, ending_of_lines, inputs_of, inputs_with, plan_of, replies_of}
+use Rattle.snaptable.specs.Outcomes.{HasStatus, IsBrokenOff, IsOfWords, IsRefusedBy, IsStop, IsStopped, StopsFor, Tells, ending_of, ending_of_job, ending_of_lines, inputs_of, inputs_with, plan_of, replies_of}
 use Rattle.snap_text.specs.Loads.{load_of}
 use Rattle.snaptable.proofs.Gathered.{Lifts, Told, memory_stops}
-use Rattle.snaptable.proofs.Names.{bytes_same}
 
 -- a job of one script names one
 abbrev names_in : Work → List (List ℕ)

@@ -1,5 +1,5 @@
 -- Scripts and load files, from what was read of them.
-use Rattle.std.specs.Prelude.{◌||◌, map, fold, find, is_none, unwrap_or, bytes_eq, AllPairs, IfErr, IfOk, IsErrAnd, IsSome, IsTrue, ⊤}
+use Rattle.std.specs.Prelude.{◌||◌, map, find, is_none, unwrap_or, bytes_eq, AllPairs, IfErr, IfOk, IsErrAnd, IsSome, IsTrue, ⊤}
 use Rattle.std.proofs.Common.{suc, zero, ◌≡◌, ◌≢◌, ◌<◌, ◌≤◌, ◌+◌, ◌⊎◌, ℕ, Bool, true, false, cond, List, [], ◌∷◌, ◌++◌, length, get_or, take, Option, Some, None, Result, Ok, Err, refl, sym, ◌∙◌, ap, subst, inl, inr, ltb, lt-ltb, arith}
 use Rattle.std.specs.Option.{option_or}
 use Rattle.std.proofs.lemmas.Slice.Eq.{bytes_eq-Decides}

@@ -1,9 +1,8 @@
 -- Names in the order in which they first come: those that are named are among them, and they differ.
-use Rattle.std.proofs.Common.{suc, zero, ◌≡◌, ◌≢◌, ◌<◌, ◌≤◌, ◌+◌, ℕ, Bool, true, false, cond, List, [], ◌∷◌, ◌++◌, length, get_or, Option, Some, None, refl, sym, ◌∙◌, ap, subst, inl, inr, arith, rules, not, Decides}
-use Rattle.std.specs.Prelude.{◌||◌, map, fold, find, filter_map, bytes_eq, is_some, position, IsSome, AllPairs}
+use Rattle.std.proofs.Common.{◌≡◌, ◌≢◌, ◌<◌, ◌≤◌, ◌+◌, ℕ, Bool, true, false, cond, List, [], ◌∷◌, ◌++◌, length, get_or, Option, Some, None, refl, sym, ◌∙◌, ap, arith}
+use Rattle.std.specs.Prelude.{◌||◌, map, fold, filter_map, bytes_eq, IsSome, AllPairs}
 use Rattle.std.specs.List.{cons_option, list_any, position_or_len}
 use Rattle.std.specs.Option.{option_to_list}
-use Rattle.std.proofs.lemmas.Grind.{common_steps}
 use Rattle.std.proofs.lemmas.Bool.Decides.{nat_tests}
 use Rattle.std.proofs.lemmas.Slice.Eq.{bytes_eq-Decides}
 use Rattle.std.proofs.lemmas.List.Elements.{filter_map-append}
@@ -15,7 +14,7 @@ use Rattle.snap_model.specs.declared.command.Command.TheVariants as command
 use Rattle.snap_service.specs.LoadFiles.{Loads, HasFile, file_of}
 use Rattle.snap_service.specs.States.{place_of}
 use Rattle.snap_service.proofs.Slots.{AllServed, IsServed}
-use Rattle.snaptable.specs.Needs.{AllNew, among, exports_named, load_in, loads_named, main_table, table_in, tables_named, with_name}
+use Rattle.snaptable.specs.Needs.{among, exports_named, load_in, loads_named, main_table, table_in, tables_named, with_name}
 use Rattle.snaptable.specs.Replies.{IsKnown}
 
 pub or_false : (b : Bool) → (b || false) ≡ b

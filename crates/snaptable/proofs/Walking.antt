@@ -1,15 +1,15 @@
 -- The walk over a script's lines: what its commands need so far, and the first line that passes a limit.
-use Rattle.std.specs.Prelude.{◌||◌, map, fold, filter_map, nat_lt, nat_le, bytes_eq, slice_index_or}
-use Rattle.std.proofs.Common.{suc, zero, ◌≡◌, ◌<◌, ◌≤◌, ◌+◌, ℕ, Bool, true, false, cond, List, [], ◌∷◌, ◌++◌, length, get_or, take, drop, Option, Some, None, refl, sym, ◌∙◌, ap, subst, append_assoc, append-nil, arith}
+use Rattle.std.specs.Prelude.{◌||◌, fold, nat_lt, bytes_eq}
+use Rattle.std.proofs.Common.{◌≡◌, ◌<◌, ◌≤◌, ◌+◌, ℕ, Bool, true, false, cond, List, [], ◌∷◌, ◌++◌, length, get_or, take, drop, Option, Some, None, refl, sym, ◌∙◌, ap, subst, append_assoc, append-nil, arith}
 use Rattle.std.proofs.lemmas.Bool.Decides.{nat_tests}
-use Rattle.std.proofs.lemmas.List.{drop_more, drop_all, take_all, take_more, map-append}
+use Rattle.std.proofs.lemmas.List.{drop_more, drop_all, take_more, map-append}
 use Rattle.snap_model.specs.declared.command.Command.{Command}
 use Rattle.snap_model.specs.declared.command.Command.TheVariants as command
 use Rattle.snap_text.specs.declared.script.Line.{Line}
 use Rattle.snaptable.specs.declared.needs.Limit.{Limit}
 use Rattle.snaptable.specs.declared.needs.Limit.TheVariants as limit
 use Rattle.snaptable.specs.declared.needs.Passed.{Passed}
-use Rattle.snaptable.specs.Needs.{AllNew, among, commands_of, export_in, exports_named, limit_of, load_in, loads_named, most_loads, most_tables, passed_at, passed_from, passed_in, table_in, tables_named, with_name}
+use Rattle.snaptable.specs.Needs.{AllNew, among, commands_of, export_in, exports_named, limit_of, load_in, loads_named, most_tables, passed_at, passed_from, passed_in, table_in, tables_named, with_name}
 use Rattle.std.specs.List.{cons_option}
 use Rattle.snaptable.specs.declared.needs.Needs.{Needs}
 use Rattle.snaptable.specs.Walks.{HasNeeds}

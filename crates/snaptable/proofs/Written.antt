@@ -2,21 +2,18 @@
 use Rattle.std.proofs.Common.{◌≡◌, ◌⊎◌, ◌<◌, ◌+◌, suc, zero, ℕ, Bool, true, false, cond, List, [], ◌∷◌, ◌++◌, length, get_or, take, drop, ◌≤◌, Option, Some, None, Result, Ok, Err, refl, sym, ◌∙◌, ap, subst, inl, inr, append-nil, append_assoc, arith}
 use Rattle.std.specs.Prelude.{◌||◌, map, bytes_eq, unwrap_or, IsSome, OnErr}
 use Rattle.std.specs.Option.{option_or}
-use Rattle.std.specs.Map.{lookup}
 use Rattle.std.proofs.Math.Seq.{take-length}
 use Rattle.std.proofs.lemmas.List.{drop_more, take-append-drop}
 use Rattle.std.proofs.lemmas.List.Folds.{list_any_at}
 use Rattle.std.proofs.lemmas.Slice.Eq.{bytes_eq-Decides}
-use Rattle.snap_io.specs.declared.failed.Failed.{Failed}
 use Rattle.snap_io.specs.Shelves.{Files, IfTold, SameBut, Changes, Creates, Appends, Grows}
-use Rattle.snap_io.specs.Sinks.{Puts}
 use Rattle.snap_io.specs.Causes.{Rose}
 use Rattle.snaptable.specs.declared.outcome.Stop.{Stop}
 use Rattle.snaptable.specs.declared.outcome.Stop.TheVariants as stop
 use Rattle.snaptable.specs.Stops.{IsUnwritten, IsUnwrittenOf}
 use Rattle.snaptable.specs.Needs.{AllNew, among}
 use Rattle.snaptable.specs.Replies.{Outputs}
-use Rattle.snaptable.specs.Outcomes.{Adds, AddsPart, HasBegun, HasFront, HasWritten, text_for}
+use Rattle.snaptable.specs.Outcomes.{HasBegun, HasFront, HasWritten, text_for}
 use Rattle.snaptable.proofs.Gathered.{rose_behind}
 use Rattle.snaptable.proofs.Names.{bytes_same}
 

@@ -1,7 +1,5 @@
 -- Why a run ends before its end, and the status of each cause.
 use Rattle.std.specs.Prelude.{◌≡◌, ℕ, List, IsTrue, ⊤}
-use Rattle.snap_text.specs.declared.fault.ScriptFault.{ScriptFault}
-use Rattle.snap_text.specs.declared.fault.ScriptFault.TheVariants as script
 use Rattle.snaptable.specs.declared.outcome.Stop.{Stop}
 use Rattle.snaptable.specs.declared.outcome.Stop.TheVariants as stop
 use Rattle.snaptable.specs.declared.words.WordsFault.{WordsFault}
@@ -18,14 +16,10 @@ status_of (stop.Write file) = 5
 status_of stop.Print = 5
 status_of stop.Memory = 6
 
--- the stop that a fault of the words or of a script leads to
+-- the stop that a fault of the words leads to
 abbrev pub stop_of_words : WordsFault → Stop
 stop_of_words words.Memory = stop.Memory
 stop_of_words fault = stop.Words fault
-
-abbrev pub stop_of_script : List ℕ → ScriptFault → Stop
-stop_of_script name script.Memory = stop.Memory
-stop_of_script name fault = stop.Script name fault
 
 -- a file of this name, or one of these, could not be written, unless memory is wanting
 abbrev pub IsUnwritten : List ℕ → Type 0 → Stop → Type 0

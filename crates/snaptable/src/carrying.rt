@@ -1,12 +1,11 @@
-ghost use Rattle.std.specs.Prelude.{◌≡◌, ◌≤◌, ◌⊎◌, [], ◌∷◌, None, Ok, Err, IfOk, IfErr, OnOk, IsSome, length, map};
+ghost use Rattle.std.specs.Prelude.{◌≡◌, ◌≤◌, None, IfOk, IfErr, OnOk, length};
 ghost use Rattle.snap_io.specs.Causes.{Rose};
-ghost use Rattle.snap_io.specs.Shelves.{Changes, IfTold};
 ghost use Rattle.snap_service.specs.Runs.{CanRunAll};
 ghost use Rattle.snap_service.specs.Tables.{counts_of};
 ghost use Rattle.snaptable.specs.Needs.{commands_of, passed_in, tables_named};
 ghost use Rattle.snaptable.specs.Replies.{exports_of, first_state, reply_file, state_behind};
 ghost use Rattle.snaptable.specs.Printed.{summary_of};
-ghost use Rattle.snaptable.specs.Outcomes.{Adds, AddsPart, IsBrokenOff, IsDone, IsPrintStop, plan_of};
+ghost use Rattle.snaptable.specs.Outcomes.{Adds, IsBrokenOff, IsDone, IsPrintStop, plan_of};
 
 use crate::accepting::Accepted;
 use crate::outcome::Stop;

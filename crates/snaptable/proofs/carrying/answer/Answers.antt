@@ -1,4 +1,4 @@
-use Rattle.std.proofs.Common.{◌≡◌, ◌≢◌, ◌<◌, ◌≤◌, ◌∙◌, List, ℕ, length, ap, sym, subst, arith}
+use Rattle.std.proofs.Common.{◌≡◌, ◌≢◌, ◌≤◌, ◌∙◌, List, ℕ, length, ap, sym, subst, arith}
 use Rattle.std.specs.Prelude.{AllPairs}
 use Rattle.snap_service.specs.States.{State}
 use Rattle.snap_service.proofs.Running.{names-after_all}

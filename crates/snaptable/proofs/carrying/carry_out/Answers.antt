@@ -1,4 +1,4 @@
-use Rattle.std.proofs.Common.{◌≡◌, ◌≤◌, ◌∙◌, List, ℕ, Ok, length, ap, sym, subst, arith}
+use Rattle.std.proofs.Common.{◌≡◌, ◌≤◌, ◌∙◌, List, ℕ, Ok, Err, length, ap, sym, subst, arith}
 use Rattle.snap_io.specs.Causes.{Rose}
 use Rattle.snap_io.specs.Shelves.{Appends, Changes}
 use Rattle.snaptable.specs.declared.outcome.Stop.{Stop}
@@ -6,15 +6,40 @@ use Rattle.snaptable.specs.Needs.{commands_of, tables_named}
 use Rattle.snaptable.specs.Replies.{exports_of, reply_file}
 use Rattle.snaptable.specs.Printed.{summary, summary_of}
 use Rattle.snaptable.specs.Outcomes.{plan_of}
-use Rattle.snaptable.proofs.Carried.{all_written, breaks, broken_by_print, done_by_print, exports_differ, later_file, some_written}
+use Rattle.snaptable.proofs.Carried.{all_written, breaks, broken_by_print, done_by_print, exports_differ, first_begun, first_file, later_file, some_written}
 use Rattle.snaptable.proofs.Gathered.{if_err, rose_behind}
 use Rattle.snaptable.proofs.Walking.{few_tables}
-use Rattle.snaptable.proofs.Written.{file_whole}
+use Rattle.snaptable.proofs.Written.{file_made, file_part, file_whole}
 use Rattle.snaptable.proofs.carrying.carry_out.Goals as goal
 
 pub write_exports-requires : goal.write_exports-requires
 write_exports-requires g c =
     exports_differ c.args.accepted.now.replies c.args.accepted.now.script c.args.accepted.now.loads c.deref-2.result.now c.requires.within (c.deref-2.ensures.value ∙ c.in_ok-answers.ensures.exports)
+
+pub returns-in_err-create-clause-stops : goal.returns-in_err-create-clause-stops
+returns-in_err-create-clause-stops g c =
+    let old = g.S.Shelf.files c.args.shelf.now in
+    let made = g.S.Shelf.files c.create.new.shelf in
+    let replies = c.args.accepted.now.replies in
+    let plan = plan_of c.args.accepted.now.script c.args.accepted.now.loads in
+    let stop = c.in_err-create.field-0.0 in
+    let begun = first_begun replies plan old made (file_made replies (reply_file plan) old made (Err stop) c.in_err-create.ensures.files) in
+    if_err _ _ stop c.from_residual.ensures.1 (breaks replies plan old made _ _ _ stop begun (first_file replies plan _ _ stop (λ risen. risen) c.in_err-create.ensures.stops))
+
+pub returns-in_err-append-clause-stops : goal.returns-in_err-append-clause-stops
+returns-in_err-append-clause-stops g c =
+    let old = g.S.Shelf.files c.args.shelf.now in
+    let made = g.S.Shelf.files c.create.new.shelf in
+    let mid = g.S.Shelf.files c.append.new.shelf in
+    let replies = c.args.accepted.now.replies in
+    let plan = plan_of c.args.accepted.now.script c.args.accepted.now.loads in
+    let stop = c.in_err-append.field-0.0 in
+    let is_text : c.deref.result.now ≡ reply_file plan = c.deref.ensures.value ∙ c.in_ok-answers.ensures.replies in
+    let added = subst (λ t. Changes made mid (Appends {T = Unit {0}} {E = Stop} replies t (Err stop))) is_text c.in_err-append.ensures.files in
+    let begun = first_begun replies plan old mid (file_part Stop Stop replies (reply_file plan) old made mid stop c.in_ok-create.ensures.files added) in
+    let rose = Rose (g.S.Shelf.write_faults c.create.new.shelf) (g.S.Shelf.write_faults c.append.new.shelf) in
+    if_err _ _ stop c.from_residual-in_err-append.ensures.1
+    (breaks replies plan old mid _ _ _ stop begun (first_file replies plan rose _ stop (λ risen. rose_behind _ _ _ c.in_ok-create.ensures.later risen) c.in_err-append.ensures.stops))
 
 pub returns-in_err-write_exports-clause-stops : goal.returns-in_err-write_exports-clause-stops
 returns-in_err-write_exports-clause-stops g c =

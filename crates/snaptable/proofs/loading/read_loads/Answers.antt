@@ -1,4 +1,4 @@
-use Rattle.std.proofs.Common.{◌≡◌, ◌+◌, ◌∙◌, sym, subst, arith}
+use Rattle.std.proofs.Common.{◌+◌, ◌∙◌, sym, subst, arith}
 use Rattle.snap_io.specs.Shelves.{IfTold}
 use Rattle.snaptable.specs.Inputs.{IsPairsOf, IsUnread}
 use Rattle.snap_io.specs.Causes.{Rose}
@@ -34,3 +34,15 @@ loop-name-preserved g c =
       files = c.in_ok-pairs.ensures.files ∙ was.files;
       writes = c.in_ok-pairs.ensures.writes ∙ was.writes;
     }
+
+pub returns-clause-loads : goal.returns-clause-loads
+returns-clause-loads g c = found_loads (g.S.Shelf.files c.args.shelf.now) c.args.names.now c.loop-name.name-index c.loop-name.found c.loop-name.invariant.found c.loop-name-test.false
+
+pub returns-clause-names : goal.returns-clause-names
+returns-clause-names g c = found_names (g.S.Shelf.files c.args.shelf.now) c.args.names.now c.loop-name.name-index c.loop-name.found c.loop-name.invariant.found c.loop-name-test.false
+
+pub returns-clause-past_words : goal.returns-clause-past_words
+returns-clause-past_words g c = found_past (g.S.Shelf.files c.args.shelf.now) c.args.names.now c.loop-name.name-index c.loop-name.found c.loop-name.invariant.found
+
+pub returns-clause-stops : goal.returns-clause-stops
+returns-clause-stops g c = found_stops (g.S.Shelf.files c.args.shelf.now) c.args.names.now c.loop-name.name-index c.loop-name.found _ c.loop-name.invariant.found c.loop-name-test.false

@@ -1,4 +1,3 @@
-use Rattle.std.proofs.Common.{◌∙◌, sym, Err, arith}
 use Rattle.snaptable.proofs.Endings.{told_status, told_stop}
 use Rattle.snaptable.proofs.Gathered.{rose_before, rose_behind}
 use Rattle.snaptable.proofs.run.run.Goals as goal

@@ -1,4 +1,4 @@
-use Rattle.std.proofs.Common.{◌≡◌, ◌++◌, List, ℕ, ◌∙◌, ap, sym, append_assoc, append-nil, take}
+use Rattle.std.proofs.Common.{◌≡◌, ◌++◌, ◌∙◌, ap, sym, append_assoc, append-nil, take}
 use Rattle.snaptable.specs.Printed.{first_line, table_line, table_lines}
 use Rattle.snaptable.proofs.Summaries.{all_lines, table_lines-take}
 use Rattle.snaptable.proofs.summary.summary_text.Goals as goal

@@ -1,4 +1,4 @@
-use Rattle.std.proofs.Common.{◌≡◌, ◌++◌, [], List, ℕ, sym, ◌∙◌, ap, take, subst}
+use Rattle.std.proofs.Common.{◌++◌, List, ℕ, sym, ◌∙◌, ap, take, subst}
 use Rattle.snap_text.specs.Replies.{IsReplyOf, reply_text}
 use Rattle.snap_text.specs.declared.script.Line.{Line}
 use Rattle.snap_service.specs.Replies.{reply_to, text_of}

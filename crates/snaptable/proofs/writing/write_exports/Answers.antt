@@ -1,7 +1,7 @@
-use Rattle.std.proofs.Common.{◌≡◌, ◌++◌, ◌∷◌, [], List, ℕ, sym, ◌∙◌, ap, take, subst, arith}
+use Rattle.std.proofs.Common.{◌++◌, ◌∷◌, [], sym, ◌∙◌, ap, take, subst, arith}
 use Rattle.std.proofs.lemmas.List.{take_more}
 use Rattle.snap_io.specs.Shelves.{Changes}
-use Rattle.snaptable.specs.Outcomes.{HasBegun, HasWritten}
+use Rattle.snaptable.specs.Outcomes.{HasWritten}
 use Rattle.snaptable.proofs.Gathered.{if_err}
 use Rattle.snaptable.proofs.Written.{apart_last, begun_here, new_here, on_err, stop_of_export, written_after}
 use Rattle.snaptable.proofs.writing.write_exports.Goals as goal
