@@ -1,39 +1,42 @@
--- Commands one by one: what one more adds to the replies and to the state.
-use Rattle.std.proofs.Common.{◌≡◌, ◌<◌, ◌+◌, ℕ, length, get_or, take, List, [], ◌∷◌, ◌++◌, Some, refl, sym, ◌∙◌, ap, append_assoc, append-nil}
-use Rattle.std.specs.Prelude.{slice_get, slice_index_or}
-use Rattle.std.proofs.lemmas.List.{take_more, map-append, length-set}
+-- Commands one by one: what one more adds to the replies and the exports.
+use Rattle.std.proofs.Common.{◌≡◌, ℕ, List, [], ◌∷◌, ◌++◌, map, refl, sym, ◌∙◌, ap, append_assoc, append-nil}
 use Rattle.snap_model.specs.declared.command.Command.{Command}
 use Rattle.snap_model.specs.declared.command.Command.TheVariants as command
-use Rattle.snap_text.specs.Replies.{reply_text}
 use Rattle.snap_text.specs.declared.script.Line.{Line}
-use Rattle.snap_service.specs.Tables.{Table, counts_of, empty_table}
+use Rattle.snap_text.specs.Replies.{reply_text}
+use Rattle.snap_service.specs.LoadFiles.{Loads}
 use Rattle.snap_service.specs.States.{State}
-use Rattle.snap_service.specs.Replies.{reply_to}
+use Rattle.snap_service.specs.Replies.{reply_to, text_of}
 use Rattle.snap_service.specs.Commands.{state_after}
 use Rattle.snap_service.specs.Runs.{state_after_all}
-use Rattle.snaptable.specs.Replies.{commands_of, reply_lines}
+use Rattle.snaptable.specs.Needs.{commands_of, exports_named}
+use Rattle.snaptable.specs.Replies.{AllKnown, Outputs, exported, exports_from, reply_lines}
+use Rattle.snaptable.proofs.Names.{AllKnownOf}
 
--- one line more is one command more
-pub commands_of-take : (lines : List Line) (i : ℕ) (line : Line) → i < length lines → line ≡ get_or lines i line → commands_of (take (i + 1) lines) ≡ commands_of (take i lines) ++ line.command ∷ []
-commands_of-take lines i line within is =
-    ap commands_of (take_more lines i line within) ∙ map-append (λ (l : Line). l.command) (take i lines) _ ∙ ap (λ (l : Line). commands_of (take i lines) ++ l.command ∷ []) (sym is)
+pub reply_lines-push : (s : State) (loads : Loads) (cs : List Command) (c : Command) → reply_lines s loads (cs ++ c ∷ []) ≡ reply_lines s loads cs ++ reply_text c (reply_to (state_after_all s loads cs) loads c)
+reply_lines-push s loads [] c = append-nil (reply_text c (reply_to s loads c))
+reply_lines-push s loads (first ∷ cs) c = ap (λ (l : List ℕ). reply_text first (reply_to s loads first) ++ l) (reply_lines-push (state_after s loads first) loads cs c) ∙ sym (append_assoc (reply_text first (reply_to s loads first)) _ _)
 
-pub reply_lines-push : (s : State) (cs : List Command) (c : Command) → reply_lines s (cs ++ c ∷ []) ≡ reply_lines s cs ++ reply_text c (reply_to (state_after_all s [] cs) [] c)
-reply_lines-push s [] c = append-nil (reply_text c (reply_to s [] c))
-reply_lines-push s (first ∷ cs) c = ap (λ (l : List ℕ). reply_text first (reply_to s [] first) ++ l) (reply_lines-push (state_after s [] first) cs c) ∙ sym (append_assoc (reply_text first (reply_to s [] first)) _ _)
+pub exports_from-push : (s : State) (loads : Loads) (cs : List Command) (c : Command) → exports_from s loads (cs ++ c ∷ []) ≡ exports_from s loads cs ++ exported c (text_of (state_after_all s loads cs) c)
+exports_from-push s loads [] c = append-nil (exported c (text_of s c))
+exports_from-push s loads (first ∷ cs) c = ap (λ (os : Outputs). exported first (text_of s first) ++ os) (exports_from-push (state_after s loads first) loads cs c) ∙ sym (append_assoc (exported first (text_of s first)) _ _)
 
--- commands leave as many tables as there were
-tables_stay : (s : State) (c : Command) → length (state_after s [] c).tables ≡ length s.tables
-tables_stay s (command.Put key value) = length-set s.tables s.in_use _
-tables_stay s (command.Remove key) = length-set s.tables s.in_use _
-tables_stay s (command.Load file) = length-set s.tables s.in_use _
-tables_stay s _ = refl
+-- the files of the exports are those that the commands name
+pub files_of_exports : (s : State) (loads : Loads) (cs : List Command) → map (λ output. output.0) (exports_from s loads cs) ≡ exports_named cs
+files_of_exports s loads [] = refl
+files_of_exports s loads (c ∷ cs) = first c ∙ ap (λ names. exports_named (c ∷ []) ++ names) (files_of_exports (state_after s loads c) loads cs) ∙ sym (split c)
+  where
+    rest : Outputs
+    rest = exports_from (state_after s loads c) loads cs
 
-pub all_tables_stay : (s : State) (cs : List Command) → length (state_after_all s [] cs).tables ≡ length s.tables
-all_tables_stay s [] = refl
-all_tables_stay s (c ∷ cs) = all_tables_stay (state_after s [] c) cs ∙ tables_stay s c
+    first : (c' : Command) → map (λ output. output.0) (exported c' (text_of s c') ++ rest) ≡ exports_named (c' ∷ []) ++ map (λ output. output.0) rest
+    first (command.Export slot lo hi file) = refl
+    first _ = refl
 
--- the counts of the first table
-pub first_counts : (tables : List Table) (counts : ℕ × ℕ) → slice_get (counts_of tables) 0 ≡ Some counts → let first = slice_index_or tables 0 empty_table in (counts.0 ≡ first.writes) × (counts.1 ≡ length first.map)
-first_counts [] counts is = absurd cc
-first_counts (t ∷ tables) counts is = let same : (t.writes, length t.map) ≡ counts = cc in (ap (λ (p : ℕ × ℕ). p.0) (sym same), ap (λ (p : ℕ × ℕ). p.1) (sym same))
+    split : (c' : Command) → exports_named (c' ∷ cs) ≡ exports_named (c' ∷ []) ++ exports_named cs
+    split (command.Export slot lo hi file) = refl
+    split _ = refl
+
+pub known_commands : (lines : List Line) → AllKnown lines → AllKnownOf (commands_of lines)
+known_commands [] known = tt
+known_commands (line ∷ lines) known = (known.0, known_commands lines known.1)

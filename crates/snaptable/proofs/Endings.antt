@@ -1,170 +1,299 @@
 -- How a run ends, by what was found on the way.
-use Rattle.std.specs.Prelude.{◌==◌, slice_index_or, if◌then◌else◌}
-use Rattle.std.proofs.Common.{◌≡◌, ◌<◌, ◌≤◌, ◌⊎◌, ℕ, List, [], length, Option, Some, None, Result, Ok, Err, IsErr, refl, sym, ◌∙◌, ap, subst, inl, inr, Bool, true, false, cond, ltb, lt-ltb, arith}
-use Rattle.snap_io.specs.Shelves.{Files, IfTold, OfFile}
-use Rattle.snap_text.specs.declared.script.Line.{Line}
+use Rattle.std.specs.Prelude.{◌||◌, bytes_eq, fold, slice_index_or, unwrap_or, IsErr, ⊤}
+use Rattle.std.proofs.Common.{◌≡◌, ◌⊎◌, ℕ, Bool, true, false, List, [], ◌∷◌, Option, Some, None, Result, Ok, Err, refl, sym, ◌∙◌, ap, subst, inl, inr, arith}
+use Rattle.snap_io.specs.Shelves.{Files, IfTold}
 use Rattle.snap_text.specs.declared.fault.ScriptFault.{ScriptFault}
-use Rattle.snap_text.specs.declared.fault.ScriptFault.TheVariants as script
-use Rattle.snap_text.specs.Scripts.{most_bytes, script_of}
+use Rattle.snap_text.specs.declared.script.Line.{Line}
+use Rattle.snap_text.specs.Scripts.{script_of}
+use Rattle.snap_service.specs.LoadFiles.{Loads}
+use Rattle.snaptable.specs.declared.needs.Passed.{Passed}
+use Rattle.snaptable.specs.declared.outcome.Stop.{Stop}
+use Rattle.snaptable.specs.declared.outcome.Stop.TheVariants as stop
 use Rattle.snaptable.specs.declared.words.Job.{Job}
 use Rattle.snaptable.specs.declared.words.Work.{Work}
 use Rattle.snaptable.specs.declared.words.Work.TheVariants.{Made, Scripts}
 use Rattle.snaptable.specs.declared.words.WordsFault.{WordsFault}
-use Rattle.snaptable.specs.declared.outcome.Stop.{Stop}
-use Rattle.snaptable.specs.declared.outcome.Stop.TheVariants as stop
-use Rattle.snaptable.specs.declared.reading.ReadFault.{ReadFault}
-use Rattle.snaptable.specs.declared.reading.ReadFault.TheVariants as reading
-use Rattle.snaptable.specs.Reading.{IsLonger}
-use Rattle.snaptable.specs.Stops.{status_of, stop_of_reading}
-use Rattle.snaptable.specs.Words.{IsOneMade, IsReady, job_of, one_made, one_script, script_name}
-use Rattle.snaptable.specs.Replies.{needs_more_somewhere}
-use Rattle.snaptable.specs.Outcomes.{Ending, EndsIn, ForScript, HasStatus, LacksScript, ending_of, ending_of_job, ending_of_work, ending_of_file, ending_of_script}
-use Rattle.snaptable.specs.Outcomes.Ending.{WordsRefused, ScriptMissing, ScriptRefused, Complete}
+use Rattle.snaptable.specs.declared.words.WordsFault.TheVariants as words
+use Rattle.snaptable.specs.Words.{job_of, one_script, script_name}
+use Rattle.snaptable.specs.Needs.{among, commands_of, loads_named, passed_in}
+use Rattle.snaptable.specs.Stops.{status_of, stop_of_words}
+use Rattle.snaptable.specs.Replies.{Plan, reply_name}
+use Rattle.snaptable.specs.Inputs.{IsLimitStop, IsPastWords, StopsBy, and_then, lines_in, lines_of, loads_in, or_passed, or_refused, unless_missing, with_load, with_pairs, within_limits, first_missing, loads_there}
+use Rattle.snaptable.specs.Printed.{stop_text}
+use Rattle.snaptable.specs.Outcomes.{HasStatus, IsBrokenOff, IsOfWords, IsRefusedBy, IsStop, IsStopped, StopsFor, Tells, ending_of, ending_of_job, ending_of_lines, inputs_of, inputs_with, plan_of, replies_of}
+use Rattle.snap_text.specs.Loads.{load_of}
+use Rattle.snaptable.proofs.Gathered.{Lifts, Told, memory_stops}
 
--- a text of too many bytes is refused
-too_long_script : (bytes : List ℕ) → most_bytes < length bytes → script_of bytes ≡ Err script.TooLong
-unfolding script_of
-too_long_script bytes long = let is : ltb most_bytes (length bytes) ≡ true = lt-ltb most_bytes (length bytes) long in rw is refl
-
-pub too_long : (files : Option Files) (ws : List (List ℕ)) (name : List ℕ) → job_of ws ≡ Ok (one_script name) → IsLonger files (script_name ws) most_bytes → EndsIn ws files ScriptRefused
-too_long None ws name is longer = tt
-too_long (Some f) ws name is longer = rw is (of_file (f (script_name ws)) longer)
-  where
-    of_file : (file : Option (List ℕ)) → OfFile file (λ bytes. most_bytes < length bytes) → ending_of_file file ≡ ScriptRefused
-    of_file None long = absurd long
-    of_file (Some bytes) long = ap ending_of_script (too_long_script bytes long)
-
-pub long_stop : (fault : ReadFault) → stop_of_reading fault ≡ stop.Script → fault ≡ reading.TooLong
-long_stop reading.TooLong is = refl
-long_stop reading.Failed is = absurd cc
-long_stop reading.Memory is = absurd cc
-
--- a job of one script names one
-abbrev names_in : Work → List (List ℕ)
-names_in (Scripts names) = names
-names_in (Made commands seed workers) = []
+-- the script that a job names first
+abbrev named_in : Work → List ℕ
+named_in (Scripts names) = slice_index_or names 0 []
+named_in (Made commands seed workers) = []
 
 pub one_name : (a b : List ℕ) → one_script a ≡ one_script b → a ≡ b
-one_name a b is = ap (λ (job : Job). slice_index_or (names_in job.work) 0 []) is
-
--- no script that is named is made
-pub named_or_made : (a : List ℕ) → IsOneMade (one_script a) → ⊥
-named_or_made a made = let is : one_script a ≡ one_made made.commands made.seed = made.is in works_differ _ _ _ _ (ap (λ (job : Job). job.work) is)
-  where
-    works_differ : (names : List (List ℕ)) (commands seed workers : ℕ) → Scripts names ≡ Made commands seed workers → ⊥
-    works_differ names commands seed workers is = cc
-
--- the script of a job is the one that the words name
-pub script_named : (ws : List (List ℕ)) (job : Job) (name : List ℕ) → job ≡ one_script name → IsReady ws job → name ≡ script_name ws
-script_named ws job name is (inl named) = one_name name (script_name ws) (sym is ∙ named)
-script_named ws job name is (inr made) = absurd (named_or_made name (subst IsOneMade is made))
+one_name a b is = ap (λ (job : Job). named_in job.work) is
 
 -- refused words end the run, whatever the files are
-pub words_refused : (ws : List (List ℕ)) (f : Files) → IsErr (job_of ws) → ending_of ws f ≡ WordsRefused
-words_refused ws f refused = of_job (job_of ws) refused
+pub words_end : (ws : List (List ℕ)) (f : Files) (fault : WordsFault) → job_of ws ≡ Err fault → ending_of ws f ≡ Err (stop.Words fault)
+unfolding ending_of
+words_end ws f fault is = ap (λ job. ending_of_job job (script_name ws) f) is
+
+pub words_stop : (ws : List (List ℕ)) (files : Option Files) (names : Files → List (List ℕ)) (rose : Type 0) (fault : WordsFault) → (fault ≡ words.Memory) ⊎ (job_of ws ≡ Err fault) → StopsBy files (ending_of ws) names rose (stop_of_words fault)
+words_stop ws files names rose words.Memory why = memory_stops files (ending_of ws) names rose
+words_stop ws None names rose words.Usage why = tt
+words_stop ws None names rose words.Number why = tt
+words_stop ws None names rose words.Choice why = tt
+words_stop ws None names rose words.Output why = tt
+words_stop ws None names rose words.NotYet why = tt
+words_stop ws None names rose words.Name why = tt
+words_stop ws (Some f) names rose words.Usage (inl is) = absurd cc
+words_stop ws (Some f) names rose words.Usage (inr is) = words_end ws f words.Usage is
+words_stop ws (Some f) names rose words.Number (inl is) = absurd cc
+words_stop ws (Some f) names rose words.Number (inr is) = words_end ws f words.Number is
+words_stop ws (Some f) names rose words.Choice (inl is) = absurd cc
+words_stop ws (Some f) names rose words.Choice (inr is) = words_end ws f words.Choice is
+words_stop ws (Some f) names rose words.Output (inl is) = absurd cc
+words_stop ws (Some f) names rose words.Output (inr is) = words_end ws f words.Output is
+words_stop ws (Some f) names rose words.NotYet (inl is) = absurd cc
+words_stop ws (Some f) names rose words.NotYet (inr is) = words_end ws f words.NotYet is
+words_stop ws (Some f) names rose words.Name (inl is) = absurd cc
+words_stop ws (Some f) names rose words.Name (inr is) = words_end ws f words.Name is
+
+pub refused_by : (ws : List (List ℕ)) (fault : WordsFault) → (fault ≡ words.Memory) ⊎ (job_of ws ≡ Err fault) → IsRefusedBy (job_of ws) (stop_of_words fault)
+refused_by ws words.Memory why = tt
+refused_by ws words.Usage (inl is) = absurd cc
+refused_by ws words.Usage (inr is) = is
+refused_by ws words.Number (inl is) = absurd cc
+refused_by ws words.Number (inr is) = is
+refused_by ws words.Choice (inl is) = absurd cc
+refused_by ws words.Choice (inr is) = is
+refused_by ws words.Output (inl is) = absurd cc
+refused_by ws words.Output (inr is) = is
+refused_by ws words.NotYet (inl is) = absurd cc
+refused_by ws words.NotYet (inr is) = is
+refused_by ws words.Name (inl is) = absurd cc
+refused_by ws words.Name (inr is) = is
+
+-- accepted words: the run ends by its script, the limits and the load files
+by_script : (ws : List (List ℕ)) (f : Files) (job : Job) → job_of ws ≡ Ok job → ending_of ws f ≡ and_then (lines_in f (script_name ws)) (ending_of_lines (script_name ws) f)
+unfolding ending_of
+by_script ws f job is = ap (λ job. ending_of_job job (script_name ws) f) is
+
+by_lines : (ws : List (List ℕ)) (f : Files) (job : Job) (lines : List Line) → job_of ws ≡ Ok job → lines_in f (script_name ws) ≡ Ok lines → ending_of ws f ≡ ending_of_lines (script_name ws) f lines
+by_lines ws f job lines is read = by_script ws f job is ∙ ap (λ r. and_then r (ending_of_lines (script_name ws) f)) read
+
+by_loads : (ws : List (List ℕ)) (f : Files) (job : Job) (lines : List Line) → job_of ws ≡ Ok job → lines_in f (script_name ws) ≡ Ok lines → passed_in (replies_of ws) lines ≡ None
+    → ending_of ws f ≡ and_then (loads_in f (loads_named (commands_of lines))) (λ loads. Ok (plan_of lines loads))
+by_loads ws f job lines is read none =
+    by_lines ws f job lines is read
+    ∙ ap (λ o. and_then (or_passed (script_name ws) lines o) (λ kept. and_then (loads_in f (loads_named (commands_of kept))) (λ loads. Ok (plan_of kept loads)))) none
+
+among_first : (name file : List ℕ) (names : List (List ℕ)) → among (name ∷ []) file ≡ true → among (name ∷ names) file ≡ true
+among_first name file names is = either (bytes_eq name file) is
   where
-    of_job : (r : Result Job WordsFault) → IsErr r → ending_of_job r (f (script_name ws)) ≡ WordsRefused
-    of_job (Ok job) is = absurd cc
-    of_job (Err fault) is = refl
+    either : (b : Bool) → (b || false) ≡ true → (b || among names file) ≡ true
+    either true is = refl
+    either false is = absurd cc
 
--- a run that went to its end has status 0
-pub status_at_end : (ending : Ending) (script : List Line) (read_fault write_fault : Type 0) → ending ≡ Complete script → HasStatus ending 0 read_fault write_fault
-status_at_end ending script read_fault write_fault is = rw is (inl refl)
-
--- a run that was stopped has the status of its stop, as its ending allows
-pub status_at_stop : (ending : Ending) (cause : Stop) (read_fault write_fault : Type 0)
-    → (cause ≡ stop.Words → ending ≡ WordsRefused)
-    → (ending ≡ WordsRefused → (cause ≡ stop.Words) ⊎ (cause ≡ stop.Memory))
-    → (cause ≡ stop.Script → ending ≡ ScriptRefused)
-    → (cause ≡ stop.Read → read_fault ⊎ (ending ≡ ScriptMissing))
-    → (cause ≡ stop.Write → write_fault × ((script : List Line) × (ending ≡ Complete script)))
-    → HasStatus ending (status_of cause) read_fault write_fault
-status_at_stop ending stop.Words rf wf words only refused unread unwritten = rw (words refl) (inl refl)
-status_at_stop ending stop.Script rf wf words only refused unread unwritten = rw (refused refl) (inl refl)
-status_at_stop WordsRefused stop.Read rf wf words only refused unread unwritten = absurd (read_is_neither (only refl))
+among_inputs : (ws : List (List ℕ)) (f : Files) (file : List ℕ) → among (script_name ws ∷ []) file ≡ true → among (inputs_of ws f) file ≡ true
+unfolding inputs_of
+among_inputs ws f file there = of_lines (lines_in f (script_name ws))
   where
-    read_is_neither : (stop.Read ≡ stop.Words) ⊎ (stop.Read ≡ stop.Memory) → ⊥
-    read_is_neither (inl is) = cc
-    read_is_neither (inr is) = cc
-status_at_stop ScriptMissing stop.Read rf wf words only refused unread unwritten = inl refl
-status_at_stop ScriptRefused stop.Read rf wf words only refused unread unwritten = elim (unread refl) [ inl rose ↦ inr (inr (refl, rose)) | inr missing ↦ absurd cc ]
-status_at_stop (Complete lines) stop.Read rf wf words only refused unread unwritten = elim (unread refl) [ inl rose ↦ inr (inr (inl (refl, rose))) | inr missing ↦ absurd cc ]
-status_at_stop ending stop.Write rf wf words only refused unread unwritten = let why = unwritten refl in rw why.1.1 (inr (inr (inr (refl, why.0))))
-status_at_stop WordsRefused stop.Memory rf wf words only refused unread unwritten = inr refl
-status_at_stop ScriptMissing stop.Memory rf wf words only refused unread unwritten = inr refl
-status_at_stop ScriptRefused stop.Memory rf wf words only refused unread unwritten = inr (inl refl)
-status_at_stop (Complete lines) stop.Memory rf wf words only refused unread unwritten = inr (inl refl)
+    of_lines : (r : Result (List Line) Stop) → among (inputs_with (script_name ws) r) file ≡ true
+    of_lines (Ok lines) = among_first (script_name ws) file (loads_named (commands_of lines)) there
+    of_lines (Err s) = there
 
-words_only : (ws : List (List ℕ)) (f : Files) → ending_of ws f ≡ WordsRefused → IsErr (job_of ws)
-words_only ws f refused = of_job (job_of ws) refused
+pub script_lifts : (ws : List (List ℕ)) (files : Option Files) (job : Job) (name : List ℕ) → job_of ws ≡ Ok job → name ≡ script_name ws → IfTold files (λ f. Lifts (lines_in f name) (ending_of ws f) (name ∷ []) (inputs_of ws f))
+script_lifts ws None job name is named = tt
+script_lifts ws (Some f) job name is named = (
+  λ s stopped. by_script ws f job is ∙ ap (λ r. and_then r (ending_of_lines (script_name ws) f)) (ap (lines_in f) (sym named) ∙ stopped),
+  λ file there. among_inputs ws f file (ap (λ n. among (n ∷ []) file) (sym named) ∙ there),
+)
+
+pub limit_stop : (ws : List (List ℕ)) (files : Option Files) (job : Job) (lines : List Line) (name : List ℕ) (names : Files → List (List ℕ)) (rose : Type 0) (s : Stop)
+    → job_of ws ≡ Ok job → name ≡ script_name ws → IfTold files (λ f. lines_in f name ≡ Ok lines) → IsLimitStop name (passed_in (reply_name name) lines) s → StopsBy files (ending_of ws) names rose s
+limit_stop ws files job lines name names rose stop.Memory is named read limit = memory_stops files (ending_of ws) names rose
+limit_stop ws None job lines name names rose (stop.Limit script passed) is named read limit = tt
+limit_stop ws (Some f) job lines name names rose (stop.Limit script passed) is named read limit =
+    by_lines ws f job lines is (ap (lines_in f) (sym named) ∙ read)
+    ∙ ap (λ o. and_then (or_passed (script_name ws) lines o) (λ kept. and_then (loads_in f (loads_named (commands_of kept))) (λ loads. Ok (plan_of kept loads))))
+    (ap (λ n. passed_in (reply_name n) lines) (sym named) ∙ limit.1)
+    ∙ ap (λ n. Err (stop.Limit n passed)) (sym named ∙ sym limit.0)
+limit_stop ws files job lines name names rose (stop.Read file) is named read limit = absurd limit
+limit_stop ws files job lines name names rose (stop.Write file) is named read limit = absurd limit
+limit_stop ws files job lines name names rose stop.Print is named read limit = absurd limit
+limit_stop ws files job lines name names rose (stop.Words fault) is named read limit = absurd limit
+limit_stop ws files job lines name names rose (stop.Script script fault) is named read limit = absurd limit
+limit_stop ws files job lines name names rose (stop.Load file fault) is named read limit = absurd limit
+
+or_there : (b c : Bool) → c ≡ true → (b || c) ≡ true
+or_there true c is = refl
+or_there false c is = is
+
+among_loads : (ws : List (List ℕ)) (f : Files) (lines : List Line) (file : List ℕ) → lines_in f (script_name ws) ≡ Ok lines → among (loads_named (commands_of lines)) file ≡ true → among (inputs_of ws f) file ≡ true
+unfolding inputs_of
+among_loads ws f lines file read there = ap (λ r. among (inputs_with (script_name ws) r) file) read ∙ or_there (bytes_eq (script_name ws) file) (among (loads_named (commands_of lines)) file) there
+
+pub loads_lift : (ws : List (List ℕ)) (files : Option Files) (job : Job) (lines : List Line) (names : List (List ℕ)) → job_of ws ≡ Ok job → IfTold files (λ f. lines_in f (script_name ws) ≡ Ok lines) → passed_in (replies_of ws) lines ≡ None → names ≡ loads_named (commands_of lines)
+    → IfTold files (λ f. Lifts (loads_in f names) (ending_of ws f) names (inputs_of ws f))
+loads_lift ws None job lines names is read none named = tt
+loads_lift ws (Some f) job lines names is read none named = (
+  λ s stopped. by_loads ws f job lines is read none ∙ ap (λ r. and_then r (λ loads. Ok (plan_of lines loads))) (ap (loads_in f) (sym named) ∙ stopped),
+  λ file there. among_loads ws f lines file read (ap (λ ns. among ns file) (sym named) ∙ there),
+)
+
+pub planned : (ws : List (List ℕ)) (files : Option Files) (job : Job) (lines : List Line) (names : List (List ℕ)) (loads : Loads) → job_of ws ≡ Ok job → IfTold files (λ f. lines_in f (script_name ws) ≡ Ok lines) → passed_in (replies_of ws) lines ≡ None → names ≡ loads_named (commands_of lines)
+    → IfTold files (λ f. loads_in f names ≡ Ok loads) → IfTold files (λ f. ending_of ws f ≡ Ok (plan_of lines loads))
+planned ws None job lines names loads is read none named there = tt
+planned ws (Some f) job lines names loads is read none named there = by_loads ws f job lines is read none ∙ ap (λ r. and_then r (λ loads. Ok (plan_of lines loads))) (ap (loads_in f) (sym named) ∙ there)
+
+-- a run that isn't stopped by its words has other stops
+abbrev IsOther : {A : Type 0} → Result A Stop → Type 0
+IsOther (Ok x) = ⊤
+IsOther (Err (stop.Words fault)) = ⊥
+IsOther (Err _) = ⊤
+
+other_lines : (name : List ℕ) (f : Files) → IsOther (lines_in f name)
+other_lines name f = of_file (f name)
   where
-    of_lines : (more : Bool) (ls : List Line) → cond more ScriptRefused (Complete ls) ≡ WordsRefused → ⊥
-    of_lines true ls is = cc
-    of_lines false ls is = cc
+    of_script : (r : Result (List Line) ScriptFault) → IsOther (or_refused name r)
+    of_script (Ok lines) = tt
+    of_script (Err fault) = tt
 
-    of_script : (r : Result (List Line) ScriptFault) → ending_of_script r ≡ WordsRefused → ⊥
-    of_script (Ok ls) is = of_lines (needs_more_somewhere ls) ls is
-    of_script (Err fault) is = cc
+    of_file : (file : Option (List ℕ)) → IsOther (lines_of name file)
+    of_file None = tt
+    of_file (Some bytes) = of_script (script_of bytes)
 
-    of_file : (file : Option (List ℕ)) → ending_of_file file ≡ WordsRefused → ⊥
-    of_file None is = cc
-    of_file (Some bytes) is = of_script (script_of bytes) is
+other_pairs : (loads : Loads) (name : List ℕ) (r : Told) → IsOther (with_pairs loads name r)
+other_pairs loads name (Ok ps) = tt
+other_pairs loads name (Err fault) = tt
 
-    of_work : (work : Work) → ending_of_work work (f (script_name ws)) ≡ WordsRefused → ⊥
-    of_work (Scripts names) is = of_file (f (script_name ws)) is
-    of_work (Made commands seed workers) is = cc
+other_then : {A B : Type 0} (r : Result A Stop) (next : A → Result B Stop) → IsOther r → ((x : A) → IsOther (next x)) → IsOther (and_then r next)
+other_then (Ok x) next other rest = rest x
+other_then (Err (stop.Words fault)) next other rest = other
+other_then (Err (stop.Script name fault)) next other rest = tt
+other_then (Err (stop.Limit name passed)) next other rest = tt
+other_then (Err (stop.Load name fault)) next other rest = tt
+other_then (Err (stop.Read name)) next other rest = tt
+other_then (Err (stop.Write name)) next other rest = tt
+other_then (Err stop.Print) next other rest = tt
+other_then (Err stop.Memory) next other rest = tt
 
-    of_job : (r : Result Job WordsFault) → ending_of_job r (f (script_name ws)) ≡ WordsRefused → IsErr r
-    of_job (Ok job) is = absurd (of_work job.work is)
-    of_job (Err fault) is = refl
+other_there : (f : Files) (found : Result Loads Stop) (names : List (List ℕ)) → IsOther found → IsOther (fold (with_load f) found names)
+other_there f found [] other = other
+other_there f found (name ∷ names) other = other_there f (with_load f found name) names (other_then found (λ loads. with_pairs loads name (load_of (unwrap_or (f name) []))) other (λ loads. other_pairs loads name (load_of (unwrap_or (f name) []))))
 
--- the status tells the stop
-abbrev stop_at : ℕ → Stop
-stop_at status = if status == 2 then stop.Words else if status == 3 then stop.Script else if status == 4 then stop.Read else if status == 5 then stop.Write else stop.Memory
+other_loads : (f : Files) (names : List (List ℕ)) → IsOther (loads_in f names)
+other_loads f names = of_missing (first_missing f names)
+  where
+    of_missing : (o : Option (List ℕ)) → IsOther (unless_missing o (loads_there f names))
+    of_missing None = other_there f (Ok []) names tt
+    of_missing (Some name) = tt
 
-stop_at_status : (s : Stop) → stop_at (status_of s) ≡ s
-stop_at_status stop.Words = refl
-stop_at_status stop.Script = refl
-stop_at_status stop.Read = refl
-stop_at_status stop.Write = refl
-stop_at_status stop.Memory = refl
+other_passed : (name : List ℕ) (lines : List Line) (o : Option Passed) → IsOther (or_passed name lines o)
+other_passed name lines None = tt
+other_passed name lines (Some passed) = tt
 
-pub same_stop : (s cause : Stop) → status_of s ≡ status_of cause → s ≡ cause
-same_stop s cause is = sym (stop_at_status s) ∙ ap stop_at is ∙ stop_at_status cause
+other_ending : (name : List ℕ) (f : Files) → IsOther (and_then (lines_in f name) (ending_of_lines name f))
+other_ending name f = other_then (lines_in f name) (ending_of_lines name f) (other_lines name f)
+    (λ lines. other_then (within_limits name (reply_name name) lines) (λ kept. and_then (loads_in f (loads_named (commands_of kept))) (λ loads. Ok (plan_of kept loads)))
+    (other_passed name lines (passed_in (reply_name name) lines))
+    (λ kept. other_then (loads_in f (loads_named (commands_of kept))) (λ loads. Ok (plan_of kept loads)) (other_loads f (loads_named (commands_of kept))) (λ loads. tt)))
 
-pub status_within : (s : Stop) → (2 ≤ status_of s) × (status_of s ≤ 6)
-status_within stop.Words = (omega arith, omega arith)
-status_within stop.Script = (omega arith, omega arith)
-status_within stop.Read = (omega arith, omega arith)
-status_within stop.Write = (omega arith, omega arith)
-status_within stop.Memory = (omega arith, omega arith)
+words_only : (ws : List (List ℕ)) (f : Files) (fault : WordsFault) → ending_of ws f ≡ Err (stop.Words fault) → IsErr (job_of ws)
+unfolding ending_of
+words_only ws f fault is = of_job (job_of ws) is
+  where
+    of_job : (r : Result Job WordsFault) → ending_of_job r (script_name ws) f ≡ Err (stop.Words fault) → IsErr r
+    of_job (Err other) is = refl
+    of_job (Ok job) is = absurd (subst IsOther is (other_ending (script_name ws) f))
 
-pub told_at_end : (ws : List (List ℕ)) (files : Option Files) (fact : List Line → Type 0) (read_fault write_fault : Type 0) → ForScript ws files fact → IfTold files (λ f. HasStatus (ending_of ws f) 0 read_fault write_fault)
-told_at_end ws None fact rf wf done = tt
-told_at_end ws (Some f) fact rf wf done = status_at_end (ending_of ws f) done.script rf wf done.is
+-- the status of a stop is one that the ending allows
+want_of_memory : (ending : Result Plan Stop) (rf wf : Type 0) → HasStatus ending 6 rf wf
+want_of_memory (Ok plan) rf wf = inr (inl refl)
+want_of_memory (Err (stop.Words fault)) rf wf = inr refl
+want_of_memory (Err _) rf wf = inr (inl refl)
 
-pub told_at_stop : (ws : List (List ℕ)) (files : Option Files) (fact : List Line → Type 0) (cause : Stop) (read_fault write_fault : Type 0)
-    → (cause ≡ stop.Words → IsErr (job_of ws))
-    → (IsErr (job_of ws) → (cause ≡ stop.Words) ⊎ (cause ≡ stop.Memory))
-    → (cause ≡ stop.Script → EndsIn ws files ScriptRefused)
-    → (cause ≡ stop.Read → read_fault ⊎ LacksScript ws files)
-    → (cause ≡ stop.Write → write_fault)
-    → (cause ≡ stop.Write → ForScript ws files fact)
-    → IfTold files (λ f. HasStatus (ending_of ws f) (status_of cause) read_fault write_fault)
-told_at_stop ws None fact cause rf wf words only refused unread unwritten begun = tt
-told_at_stop ws (Some f) fact cause rf wf words only refused unread unwritten begun =
-    status_at_stop (ending_of ws f) cause rf wf (λ is. words_refused ws f (words is)) (λ is. only (words_only ws f is)) refused unread (λ is. (unwritten is, ((begun is).script, (begun is).is)))
+pub status_of_stop : (ws : List (List ℕ)) (f : Files) (new : Option Files) (before now : Option (List ℕ)) (rf wf sf : Type 0) (s : Stop) → (IsErr (job_of ws) → (let run : Result (Unit {0}) Stop = Err s in IsOfWords run))
+    → StopsFor ws (Some f) new before now rf wf sf s → HasStatus (ending_of ws f) (status_of s) rf (wf ⊎ sf)
+status_of_stop ws f new before now rf wf sf (stop.Words fault) words stops = rw (words_end ws f fault stops.0) (inl refl)
+status_of_stop ws f new before now rf wf sf (stop.Script name fault) words stops = rw stops.0 (inl refl)
+status_of_stop ws f new before now rf wf sf (stop.Limit name passed) words stops = rw stops.0 (inl refl)
+status_of_stop ws f new before now rf wf sf (stop.Load name fault) words stops = rw stops.0 (inl refl)
+status_of_stop ws f new before now rf wf sf (stop.Read name) words stops = elim stops.0 as (λ _. HasStatus (ending_of ws f) 4 rf (wf ⊎ sf)) [
+  | inl is ↦ rw is (inl refl)
+  | inr fault ↦ any_read (ending_of ws f) (λ fault is. words (words_only ws f fault is)) fault.0
+]
+  where
+    any_read : (ending : Result Plan Stop) → ((fault : WordsFault) → ending ≡ Err (stop.Words fault) → ⊥) → rf → HasStatus ending 4 rf (wf ⊎ sf)
+    any_read (Ok plan) none fault = inr (inr (inl (refl, fault)))
+    any_read (Err (stop.Words why)) none fault = absurd (none why refl)
+    any_read (Err _) none fault = inr (inr (refl, fault))
+status_of_stop ws f new before now rf wf sf (stop.Write name) words stops = rw stops.is (inr (inr (inr (refl, inl stops.holds.0))))
+status_of_stop ws f new before now rf wf sf stop.Print words stops = rw stops.is (inr (inr (inr (refl, inr stops.holds.0))))
+status_of_stop ws f new before now rf wf sf stop.Memory words stops = want_of_memory (ending_of ws f) rf (wf ⊎ sf)
 
--- what the result of a run says of its stop
-abbrev Ended : Type 0
-Ended = Result (Unit {0}) Stop
+pub past_words : (job : Result Job WordsFault) (s : Stop) → IsPastWords s → IsRefusedBy job s
+past_words job (stop.Words fault) past = absurd past
+past_words job _ past = tt
 
-pub same_error : (a b : Stop) → (let left : Ended = Err a in let right : Ended = Err b in left ≡ right) → a ≡ b
-same_error a b is = cc
+-- a count of faults that rises later
+stops_wider : (ws : List (List ℕ)) (files new : Option Files) (before now : Option (List ℕ)) (rf wf sf risen : Type 0) → (sf → risen) → (s : Stop) → StopsFor ws files new before now rf wf sf s → StopsFor ws files new before now rf wf risen s
+stops_wider ws files new before now rf wf sf risen wider (stop.Words fault) stops = stops
+stops_wider ws files new before now rf wf sf risen wider (stop.Script name fault) stops = stops
+stops_wider ws files new before now rf wf sf risen wider (stop.Limit name passed) stops = stops
+stops_wider ws files new before now rf wf sf risen wider (stop.Load name fault) stops = stops
+stops_wider ws files new before now rf wf sf risen wider (stop.Read name) stops = stops
+stops_wider ws files new before now rf wf sf risen wider (stop.Write name) stops = record { plan = stops.plan; is = stops.is; holds = stops.holds }
+stops_wider ws files new before now rf wf sf risen wider stop.Print stops = record { plan = stops.plan; is = stops.is; holds = (wider stops.holds.0, stops.holds.1) }
+stops_wider ws files new before now rf wf sf risen wider stop.Memory stops = tt
 
-pub same_end : (a : Stop) → (let ended : Ended = Err a in let words : Ended = Err stop.Words in let memory : Ended = Err stop.Memory in (ended ≡ words) ⊎ (ended ≡ memory)) → (a ≡ stop.Words) ⊎ (a ≡ stop.Memory)
-same_end a (inl is) = inl (same_error _ _ is)
-same_end a (inr is) = inr (same_error _ _ is)
+-- the stop of a run, and what was told of it
+abbrev pub ToldOf : ℕ → Option (List ℕ) → Option (List ℕ) → Type 0 → Stop → Type 0
+ToldOf status printed now sf s = (status ≡ 6) ⊎ (status ≡ status_of s) × Tells printed now (stop_text s) sf
 
-pub not_stopped : (u : Unit {0}) (cause : Stop) → (let left : Ended = Ok u in let right : Ended = Err cause in left ≡ right) → ⊥
-not_stopped u cause is = cc
+pub told_status : (ws : List (List ℕ)) (files new : Option Files) (before printed now : Option (List ℕ)) (rf wf sf told risen : Type 0) (s : Stop) (status : ℕ) → (sf → risen)
+    → (IsErr (job_of ws) → (let run : Result (Unit {0}) Stop = Err s in IsOfWords run)) → StopsFor ws files new before printed rf wf sf s → ToldOf status printed now told s → IfTold files (λ f. HasStatus (ending_of ws f) status rf (wf ⊎ risen))
+told_status ws None new before printed now rf wf sf told risen s status wider words stops why = tt
+told_status ws (Some f) new before printed now rf wf sf told risen s status wider words stops why = elim why as (λ _. HasStatus (ending_of ws f) status rf (wf ⊎ risen)) [
+  | inl is ↦ subst (λ n. HasStatus (ending_of ws f) n rf (wf ⊎ risen)) (sym is) (want_of_memory (ending_of ws f) rf (wf ⊎ risen))
+  | inr is ↦ subst (λ n. HasStatus (ending_of ws f) n rf (wf ⊎ risen)) (sym is.0) (status_of_stop ws f new before printed rf wf risen s words (stops_wider ws (Some f) new before printed rf wf sf risen wider s stops))
+]
+
+tells_wider : (before now : Option (List ℕ)) (text : List ℕ) (told risen : Type 0) → (told → risen) → Tells before now text told → Tells before now text risen
+tells_wider before now text told risen wider (inl all) = inl all
+tells_wider before now text told risen wider (inr part) = inr (wider part.0, part.1)
+
+pub told_stop : (ws : List (List ℕ)) (files new : Option Files) (before printed now : Option (List ℕ)) (rf wf sf told risen : Type 0) (s : Stop) (status : ℕ) → (sf → risen) → (told → risen)
+    → StopsFor ws files new before printed rf wf sf s → ToldOf status printed now told s → IsStop status → IsStopped ws files new before now rf wf risen status
+told_stop ws files new before printed now rf wf sf told risen s status wider later stops (inl is) within = absurd (omega (arith, is, within.1))
+told_stop ws files new before printed now rf wf sf told risen s status wider later stops (inr is) within = record {
+  stop = s;
+  tells_stop = is.0;
+  printed = printed;
+  cause = stops_wider ws files new before printed rf wf sf risen wider s stops;
+  told = tells_wider printed now (stop_text s) told risen later is.1;
+}
+
+-- a plan that is broken off stops the run
+pub broken_off : (ws : List (List ℕ)) (files new : Option Files) (before now : Option (List ℕ)) (rf wf sf : Type 0) (plan : Plan) (s : Stop) → IfTold files (λ f. ending_of ws f ≡ Ok plan) → IsBrokenOff (replies_of ws) plan files new before now wf sf s → StopsFor ws files new before now rf wf sf s
+broken_off ws files new before now rf wf sf plan (stop.Write name) is broken = record { plan = plan; is = is; holds = broken }
+broken_off ws files new before now rf wf sf plan stop.Print is broken = record { plan = plan; is = is; holds = broken }
+broken_off ws files new before now rf wf sf plan stop.Memory is broken = tt
+broken_off ws files new before now rf wf sf plan (stop.Words fault) is broken = absurd broken
+broken_off ws files new before now rf wf sf plan (stop.Script name fault) is broken = absurd broken
+broken_off ws files new before now rf wf sf plan (stop.Limit name passed) is broken = absurd broken
+broken_off ws files new before now rf wf sf plan (stop.Load name fault) is broken = absurd broken
+broken_off ws files new before now rf wf sf plan (stop.Read name) is broken = absurd broken
+
+-- a run that was stopped on its way to a plan
+pub not_accepted : (ws : List (List ℕ)) (files : Option Files) (before : Option (List ℕ)) (rf wf sf : Type 0) (new : Option Files) (s : Stop) → IsRefusedBy (job_of ws) s → StopsBy files (ending_of ws) (inputs_of ws) rf s → new ≡ files → StopsFor ws files new before before rf wf sf s
+not_accepted ws files before rf wf sf new (stop.Words fault) words stops same = (words, record { files = same; sink = refl })
+not_accepted ws files before rf wf sf new (stop.Script name fault) words stops same = (stops, record { files = same; sink = refl })
+not_accepted ws files before rf wf sf new (stop.Limit name passed) words stops same = (stops, record { files = same; sink = refl })
+not_accepted ws files before rf wf sf new (stop.Load name fault) words stops same = (stops, record { files = same; sink = refl })
+not_accepted ws files before rf wf sf new (stop.Read name) words stops same = (stops, record { files = same; sink = refl })
+not_accepted ws None before rf wf sf new (stop.Write name) words stops same = absurd stops
+not_accepted ws (Some f) before rf wf sf new (stop.Write name) words stops same = absurd stops
+not_accepted ws None before rf wf sf new stop.Print words stops same = absurd stops
+not_accepted ws (Some f) before rf wf sf new stop.Print words stops same = absurd stops
+not_accepted ws files before rf wf sf new stop.Memory words stops same = tt

@@ -4,27 +4,32 @@ use Rattle.std.specs.Prelude.{codes, bytes_eq, if◌then◌else◌}
 use Rattle.std.specs.Fmt.{digits}
 use Rattle.snap_io.specs.Shelves.{Files}
 use Rattle.snap_model.specs.declared.command.Command.{Command}
-use Rattle.snap_model.specs.declared.command.Command.TheVariants.{Put, Remove, Get}
+use Rattle.snap_model.specs.declared.command.Command.TheVariants.{Table, Put, Remove, Get, Snap, Export, Load}
 use Rattle.snap_text.specs.Clones.{all_free}
 use Rattle.snap_text.specs.Scripts.{script_of}
+use Rattle.snap_text.specs.Tables.{pair_lines}
 use Rattle.snap_text.specs.Verbs.{verb_of}
+use Rattle.snap_text.specs.declared.fault.LineKind.TheVariants as kind
+use Rattle.snap_text.specs.declared.fault.ScriptFault.TheVariants as script
 use Rattle.snap_text.specs.declared.script.Line.{Line}
+use Rattle.snaptable.specs.declared.needs.Limit.TheVariants as limit
+use Rattle.snaptable.specs.declared.outcome.Stop.TheVariants as stop
 use Rattle.snaptable.specs.declared.words.WordsFault.TheVariants as fault
 use Rattle.clap.proofs.OnLiterals.{clap_on_literals}
 use Rattle.snaptable.specs.CommandLine.{arguments_of, misuse}
 use Rattle.snaptable.specs.Generator.{first_commands, first_number, lines_from, made_script, nth_command, nth_number}
-use Rattle.snaptable.specs.Words.{job_of, one_made, one_script, script_name}
-use Rattle.snaptable.specs.Replies.{reply_file, reply_name}
-use Rattle.snaptable.specs.Printed.{summary}
-use Rattle.snaptable.specs.Outcomes.{ending_of}
-use Rattle.snaptable.specs.Outcomes.Ending.{WordsRefused, ScriptMissing, ScriptRefused, Complete}
+use Rattle.snaptable.specs.Words.{job_of, one_script, script_name}
+use Rattle.snaptable.specs.Needs.{commands_of, loads_named, passed_in, tables_named}
+use Rattle.snaptable.specs.Replies.{Plan, exports_of, reply_file, reply_name}
+use Rattle.snaptable.specs.Printed.{stop_text, summary}
+use Rattle.snaptable.specs.Outcomes.{ending_of, plan_of}
 
 abbrev line : ℕ → Command → Line
 line n command = record { line = n; command = command }
 
 -- put 5 50, put 5 51, get 5, remove 5, remove 5
-abbrev story : List Line
-story = line 1 (Put 5 50) ∷ line 2 (Put 5 51) ∷ line 3 (Get 5) ∷ line 4 (Remove 5) ∷ line 5 (Remove 5) ∷ []
+abbrev story : Plan
+story = plan_of (line 1 (Put 5 50) ∷ line 2 (Put 5 51) ∷ line 3 (Get 5) ∷ line 4 (Remove 5) ∷ line 5 (Remove 5) ∷ []) []
 
 story_replies : reply_file story ≡ codes "new\nold 50\nvalue 51\nold 51\nnone\n"
 unfolding digits
@@ -34,9 +39,36 @@ story_summary : summary story ≡ codes "scripts 1 commands 5 full 0\ntable main
 unfolding digits
 story_summary = refl
 
-nothing_summary : summary [] ≡ codes "scripts 1 commands 0 full 0\ntable main writes 0 pairs 0\n"
+-- use t, load l, clone c, put 1 9, export c 2 9 e, export c 0 9 f
+abbrev tables : List Line
+tables = line 1 (Table (codes "t")) ∷ line 2 (Load (codes "l")) ∷ line 3 (Snap 0 (codes "c")) ∷ line 4 (Put 1 9) ∷ line 5 (Export 0 2 9 (codes "e")) ∷ line 6 (Export 0 0 9 (codes "f")) ∷ []
+
+abbrev tables_plan : Plan
+tables_plan = plan_of tables ((codes "l", (3, 30) ∷ (1, 10) ∷ (3, 31) ∷ []) ∷ [])
+
+tables_needs : (tables_named (commands_of tables) ≡ codes "main" ∷ codes "t" ∷ []) × (loads_named (commands_of tables) ≡ codes "l" ∷ [])
+tables_needs = (refl, refl)
+
+tables_replies : reply_file tables_plan ≡ codes "using t\nloaded 3\ncloned c\nold 10\nexported 1\nexported 2\n"
 unfolding digits
-nothing_summary = refl
+tables_replies = refl
+
+tables_exports : exports_of tables_plan ≡ (codes "e", codes "key,value\n3,31\n") ∷ (codes "f", codes "key,value\n1,10\n3,31\n") ∷ []
+unfolding digits pair_lines
+tables_exports = refl
+
+tables_summary : summary tables_plan ≡ codes "scripts 1 commands 6 full 0\ntable main writes 0 pairs 0\ntable t writes 4 pairs 2\n"
+unfolding digits
+tables_summary = refl
+
+-- limits
+no_limit : passed_in (codes "a.out") tables ≡ None
+unfolding passed_in
+no_limit = refl
+
+taken : passed_in (codes "a.out") (line 1 (Snap 0 (codes "c")) ∷ line 2 (Export 0 0 9 (codes "e")) ∷ line 5 (Export 0 0 9 (codes "e")) ∷ []) ≡ Some (record { line = 5; limit = limit.OutputTaken })
+unfolding passed_in
+taken = refl
 
 reply_file_name : reply_name (codes "a.txt") ≡ codes "a.txt.out"
 reply_file_name = refl
@@ -45,9 +77,9 @@ words_taken : job_of (codes "--" ∷ codes "dir/a-1.txt" ∷ []) ≡ Ok (one_scr
 unfolding clap_on_literals job_of misuse arguments_of
 words_taken = refl
 
-made_taken : job_of (codes "--seed=7" ∷ codes "--generate" ∷ codes "010" ∷ []) ≡ Ok (one_made 10 7)
+made_not_yet : job_of (codes "--seed=7" ∷ codes "--generate" ∷ codes "010" ∷ []) ≡ Err fault.NotYet
 unfolding clap_on_literals job_of misuse arguments_of
-made_taken = refl
+made_not_yet = refl
 
 -- each refusal, before those that stand behind it
 words_misused : job_of (codes "--rows" ∷ codes "0" ∷ codes "--rows=0" ∷ []) ≡ Err fault.Usage
@@ -87,14 +119,23 @@ commands = refl
 abbrev with_script : List ℕ → Files
 with_script text = λ name. if bytes_eq name (codes "a") then Some text else None
 
-endings : (ending_of [] (with_script []) ≡ WordsRefused) × (ending_of (codes "b" ∷ []) (with_script []) ≡ ScriptMissing)
-unfolding clap_on_literals job_of misuse arguments_of script_name
+endings : (ending_of [] (with_script []) ≡ Err (stop.Words fault.Choice)) × (ending_of (codes "b" ∷ []) (with_script []) ≡ Err (stop.Read (codes "b")))
+unfolding clap_on_literals job_of misuse arguments_of script_name ending_of
 endings = (refl, refl)
 
-ending_refused : ending_of (codes "a" ∷ []) (with_script (codes "get x")) ≡ ScriptRefused
-unfolding clap_on_literals job_of misuse arguments_of script_name script_of all_free verb_of
+ending_refused : ending_of (codes "a" ∷ []) (with_script (codes "get x")) ≡ Err (stop.Script (codes "a") (script.Line 1 kind.BadNumber))
+unfolding clap_on_literals job_of misuse arguments_of script_name ending_of script_of all_free verb_of
 ending_refused = refl
 
-ending_complete : ending_of (codes "a" ∷ []) (with_script (codes "get 1\n")) ≡ Complete (line 1 (Get 1) ∷ [])
-unfolding clap_on_literals job_of misuse arguments_of script_name script_of all_free verb_of
+ending_lacking : ending_of (codes "a" ∷ []) (with_script (codes "load l\n")) ≡ Err (stop.Read (codes "l"))
+unfolding clap_on_literals job_of misuse arguments_of script_name ending_of script_of all_free verb_of passed_in
+ending_lacking = refl
+
+ending_complete : ending_of (codes "a" ∷ []) (with_script (codes "get 1\n")) ≡ Ok (plan_of (line 1 (Get 1) ∷ []) [])
+unfolding clap_on_literals job_of misuse arguments_of script_name ending_of script_of all_free verb_of passed_in
 ending_complete = refl
+
+-- texts
+texts : (stop_text (stop.Limit (codes "a") (record { line = 9; limit = limit.TooManyLoads })) ≡ codes "script a line 9: TooManyLoads\n") × (stop_text (stop.Read (codes "l")) ≡ codes "read fault: l\n")
+unfolding digits
+texts = (refl, refl)

@@ -8,7 +8,7 @@ use Rattle.clap.specs.Words.{Kinds}
 use Rattle.snap_text.specs.Numbers.{is_number}
 use Rattle.snaptable.specs.Checks.{checked, checked_by, numbers_in}
 use Rattle.snaptable.specs.CommandLine.{Arguments, Text, arguments_of, misuse}
-use Rattle.snaptable.specs.Words.{IsOneMade, IsReady, answer_by, asks_for_more, fault_in, has_choice, has_names, has_numbers, has_twice, is_number_from, job_in, job_of, job_unless, most_commands, most_seed, most_workers, number_or, one_made, one_script, output_names, passes, script_name}
+use Rattle.snaptable.specs.Words.{answer_by, asks_for_more, fault_in, has_choice, has_names, has_numbers, has_twice, is_number_from, job_in, job_of, job_unless, most_commands, most_seed, most_workers, number_or, one_script, output_names, passes, script_name}
 use Rattle.snaptable.specs.declared.checking.Numbers.{Numbers}
 use Rattle.snaptable.specs.declared.words.Job.{Job}
 use Rattle.snaptable.specs.declared.words.Work.TheVariants.{Made}
@@ -41,53 +41,27 @@ no_fault true true true true more is = absurd cc
 no_fault true true true false true is = absurd cc
 no_fault true true true false false is = record { numbers_hold = refl; choice_holds = refl; no_more = refl }
 
--- one worker, where the number is none above 1
-one_worker : (workers : Option Text) (most : ℕ) → passes (is_number_from 1 most) workers ≡ true → nat_lt 1 (number_or 1 workers) ≡ false → number_or 1 workers ≡ 1
-one_worker None most within single = refl
-one_worker (Some text) most within single =
-    let least = leb-true 1 (digits_value 10 text) ((both (is_number most text) _ within).1) in
-    elim (leb_tells 2 (digits_value 10 text)) [
-      | inl two ↦ absurd (let clash : true ≡ false = sym two.0 ∙ single in cc)
-      | inr below ↦ omega (arith, least, below.1)
-    ]
-
-within_most : (least most : ℕ) (text : Text) → is_number_from least most text ≡ true → digits_value 10 text ≤ most
-within_most least most text is =
-    let number = (both (is_number most text) _ is).0 in
-    leb-true (digits_value 10 text) most ((both _ _ ((both _ _ number).1)).1)
-
 no_fault_in : (a : Arguments) → fault_in a ≡ None → HasNone (has_numbers a) (has_names a) (has_choice a) (has_twice (output_names a)) (asks_for_more a)
 no_fault_in a is = no_fault (has_numbers a) (has_names a) (has_choice a) (has_twice (output_names a)) (asks_for_more a) is
 
 abbrev given : (rows last generate seed workers : Option Text) → List Text → Arguments
 given rows last generate seed workers scripts = record { rows = rows; last = last; generate = generate; seed = seed; workers = workers; scripts = scripts }
 
--- what can be run is one script, or one that is made
+-- what can be run is one script
 ready_of : (rows last generate seed workers : Option Text) (scripts : List Text) → fault_in (given rows last generate seed workers scripts) ≡ None
-    → let job = job_in (given rows last generate seed workers scripts) in (job ≡ one_script (slice_index_or scripts 0 [])) ⊎ IsOneMade job
+    → job_in (given rows last generate seed workers scripts) ≡ one_script (slice_index_or scripts 0 [])
 ready_of (Some r) last generate seed workers scripts is =
     absurd (let clash : true ≡ false = (neither (nat_lt 1 (length scripts)) true (no_fault_in (given (Some r) last generate seed workers scripts) is).no_more).1 in cc)
 ready_of None (Some l) generate seed workers scripts is =
     absurd (let clash : true ≡ false = (neither (nat_lt 1 (length scripts)) true (no_fault_in (given None (Some l) generate seed workers scripts) is).no_more).1 in cc)
 ready_of None None None seed workers [] is = absurd (let clash : false ≡ true = (no_fault_in (given None None None seed workers []) is).choice_holds in cc)
-ready_of None None None seed workers (name ∷ []) is = inl refl
+ready_of None None None seed workers (name ∷ []) is = refl
 ready_of None None None seed workers (name ∷ other ∷ names) is =
     let names = name ∷ other ∷ names in
     let none = no_fault_in (given None None None seed workers names) is in
-    absurd (let clash : true ≡ false = sym (lt-ltb 1 (length names) (omega arith)) ∙ (neither (nat_lt 1 (length names)) (nat_lt 1 (number_or 1 workers)) none.no_more).0 in cc)
+    absurd (let clash : true ≡ false = sym (lt-ltb 1 (length names) (omega arith)) ∙ (neither (nat_lt 1 (length names)) false none.no_more).0 in cc)
 ready_of None None (Some text) seed workers scripts is =
-    let none = no_fault_in (given None None (Some text) seed workers scripts) is in
-    let seeds = passes (is_number_from 0 most_seed) seed in
-    let works = passes (is_number_from 1 most_workers) workers in
-    let numbers = both (is_number_from 1 most_commands text) (seeds && works) none.numbers_hold in
-    let single = (neither (nat_lt 1 (length scripts)) (nat_lt 1 (number_or 1 workers)) none.no_more).1 in
-    let same : number_or 1 workers ≡ 1 = one_worker workers most_workers ((both seeds works numbers.1).1) single in
-    inr (record {
-      commands = digits_value 10 text;
-      seed = number_or 1 seed;
-      is = ap (λ (w : ℕ). record (one_made (digits_value 10 text) (number_or 1 seed)) { work = Made (digits_value 10 text) (number_or 1 seed) w }) same;
-      few = within_most 1 most_commands text numbers.0;
-    })
+    absurd (let clash : true ≡ false = (neither (nat_lt 1 (length scripts)) true (no_fault_in (given None None (Some text) seed workers scripts) is).no_more).1 in cc)
 
 pub numbers_read : (b : Bool) (n m : Numbers) → Some n ≡ (if b then Some m else None) → n ≡ m
 numbers_read true n m is = cc
@@ -106,12 +80,10 @@ job_found ws a numbers job taken is found made =
     let none = (no_fault_where a numbers (fault_in a) found).0 in
     ap (λ kinds. job_unless kinds (arguments_of ws)) taken ∙ ap (λ (b : Arguments). answer_by (fault_in b) b) (sym is) ∙ ap (λ f. answer_by f a) none ∙ ap Ok (sym made)
 
-pub ready_found : (ws : List Text) (a : Arguments) (numbers : Numbers) (job : Job) → a ≡ arguments_of ws → checked a ≡ Ok numbers → job ≡ job_in a → IsReady ws job
+pub ready_found : (ws : List Text) (a : Arguments) (numbers : Numbers) (job : Job) → a ≡ arguments_of ws → checked a ≡ Ok numbers → job ≡ job_in a → job ≡ one_script (script_name ws)
 unfolding script_name
 ready_found ws a numbers job is found made =
-    let P : Job → Type 0 = λ j. (j ≡ one_script (slice_index_or a.scripts 0 [])) ⊎ IsOneMade j in
-    let ready = subst P (sym made) (ready_of a.rows a.last a.generate a.seed a.workers a.scripts (no_fault_where a numbers (fault_in a) found).0) in
-    subst (λ (b : Arguments). (job ≡ one_script (slice_index_or b.scripts 0 [])) ⊎ IsOneMade job) is ready
+    made ∙ ready_of a.rows a.last a.generate a.seed a.workers a.scripts (no_fault_where a numbers (fault_in a) found).0 ∙ ap (λ (b : Arguments). one_script (slice_index_or b.scripts 0 [])) is
 
 pub fault_found : (ws : List Text) (a : Arguments) (f : WordsFault) → misuse ws ≡ [] → a ≡ arguments_of ws → checked a ≡ Err f → job_of ws ≡ Err f
 unfolding job_of

@@ -4,7 +4,10 @@ pub mod Words
 pub mod Checks
 pub mod Generator
 pub mod Reading
+pub mod Needs
+pub mod Walks
 pub mod Stops
 pub mod Replies
 pub mod Printed
+pub mod Inputs
 pub mod Outcomes

@@ -1,65 +1,57 @@
 -- What a run has to come to, by its words and the files that it finds.
-use Rattle.std.specs.Prelude.{◌≡◌, ◌⊎◌, ◌++◌, ◌≤◌, ℕ, List, Option, Some, None, Result, Ok, Err, ⊤, take, if◌then◌else◌}
-use Rattle.snap_io.specs.Shelves.{Files, SameBut, Sets, Changes, IfTold}
-use Rattle.snap_text.specs.Scripts.{script_of}
+use Rattle.std.specs.Prelude.{◌≡◌, ◌⊎◌, ◌++◌, ◌≤◌, ℕ, List, [], ◌∷◌, Option, Some, None, Result, Ok, Err, IsTrue, ⊤, take, map, bytes_eq}
+use Rattle.std.specs.Option.{option_or}
+use Rattle.std.specs.Map.{lookup}
+use Rattle.snap_io.specs.Shelves.{Files, Changes, IfTold}
 use Rattle.snap_text.specs.declared.script.Line.{Line}
-use Rattle.snap_text.specs.declared.fault.ScriptFault.{ScriptFault}
+use Rattle.snap_service.specs.LoadFiles.{Loads}
+use Rattle.snaptable.specs.declared.outcome.Stop.{Stop}
+use Rattle.snaptable.specs.declared.outcome.Stop.TheVariants as stop
 use Rattle.snaptable.specs.declared.words.Job.{Job}
-use Rattle.snaptable.specs.declared.words.Work.{Work}
-use Rattle.snaptable.specs.declared.words.Work.TheVariants.{Made, Scripts}
 use Rattle.snaptable.specs.declared.words.WordsFault.{WordsFault}
 use Rattle.snaptable.specs.Words.{job_of, script_name}
-use Rattle.snaptable.specs.Replies.{needs_more_somewhere, reply_file, reply_name}
-use Rattle.snaptable.specs.Printed.{summary}
+use Rattle.snaptable.specs.Needs.{among, commands_of, loads_named}
+use Rattle.snaptable.specs.Stops.{status_of}
+use Rattle.snaptable.specs.Replies.{Outputs, Plan, outputs_of, reply_name}
+use Rattle.snaptable.specs.Printed.{stop_text, summary}
+use Rattle.snaptable.specs.Inputs.{StopsBy, and_then, lines_in, loads_in, within_limits}
 
--- how a run ends where nothing fails
-pub data Ending : Type 0 where
-  WordsRefused : Ending
-  ScriptMissing : Ending
-  ScriptRefused : Ending
-  Complete : List Line → Ending
+-- how a run ends where nothing fails: it carries a plan out, or is stopped
+abbrev pub plan_of : List Line → Loads → Plan
+plan_of lines loads = record { lines = lines; loads = loads }
 
--- by the script's meaning, by its bytes if it is there, and by the words; a script that needs more than a run has yet
--- is refused too
-abbrev pub ending_of_lines : List Line → Ending
-ending_of_lines lines = if needs_more_somewhere lines then ScriptRefused else Complete lines
+abbrev pub ending_of_lines : List ℕ → Files → List Line → Result Plan Stop
+ending_of_lines name files lines =
+    and_then (within_limits name (reply_name name) lines) (λ kept.
+    and_then (loads_in files (loads_named (commands_of kept))) (λ loads. Ok (plan_of kept loads)))
 
-abbrev pub ending_of_script : Result (List Line) ScriptFault → Ending
-ending_of_script (Err fault) = ScriptRefused
-ending_of_script (Ok lines) = ending_of_lines lines
+abbrev pub ending_of_job : Result Job WordsFault → List ℕ → Files → Result Plan Stop
+ending_of_job (Err fault) name files = Err (stop.Words fault)
+ending_of_job (Ok job) name files = and_then (lines_in files name) (ending_of_lines name files)
 
-abbrev pub ending_of_file : Option (List ℕ) → Ending
-ending_of_file None = ScriptMissing
-ending_of_file (Some bytes) = ending_of_script (script_of bytes)
+unfoldable pub ending_of : List (List ℕ) → Files → Result Plan Stop
+ending_of words files = ending_of_job (job_of words) (script_name words) files
 
--- scripts that are to be made are refused too, as yet
-abbrev pub ending_of_work : Work → Option (List ℕ) → Ending
-ending_of_work (Scripts names) file = ending_of_file file
-ending_of_work (Made commands seed workers) file = ScriptRefused
+-- the names of the files that a run has to read: its script, and the load files of a script that is there
+abbrev pub inputs_with : List ℕ → Result (List Line) Stop → List (List ℕ)
+inputs_with name (Ok lines) = name ∷ loads_named (commands_of lines)
+inputs_with name (Err stop) = name ∷ []
 
-abbrev pub ending_of_job : Result Job WordsFault → Option (List ℕ) → Ending
-ending_of_job (Err fault) file = WordsRefused
-ending_of_job (Ok job) file = ending_of_work job.work file
+unfoldable pub inputs_of : List (List ℕ) → Files → List (List ℕ)
+inputs_of words files = inputs_with (script_name words) (lines_in files (script_name words))
 
-abbrev pub ending_of : List (List ℕ) → Files → Ending
-ending_of words files = ending_of_job (job_of words) (files (script_name words))
-
--- where the files are told, the run ends so
-abbrev pub EndsIn : List (List ℕ) → Option Files → Ending → Type 0
-EndsIn words files ending = IfTold files (λ f. ending_of words f ≡ ending)
-
--- the files are told, and the script isn't there
-abbrev pub LacksScript : List (List ℕ) → Option Files → Type 0
-LacksScript words None = ⊥
-LacksScript words (Some files) = ending_of words files ≡ ScriptMissing
+-- the plan of a run, where the files are told, with a fact of it
+pub record ForPlan (words : List (List ℕ)) (files : Option Files) (fact : Plan → Type 0) : Type 0 where
+  pub plan : Plan
+  pub is : IfTold files (λ f. ending_of words f ≡ Ok plan)
+  pub holds : fact plan
 
 -- the status of an ending, unless memory is wanting or a read or a write faulted
-abbrev pub HasStatus : Ending → ℕ → Type 0 → Type 0 → Type 0
-HasStatus WordsRefused status read_fault write_fault = (status ≡ 2) ⊎ (status ≡ 6)
-HasStatus ScriptMissing status read_fault write_fault = (status ≡ 4) ⊎ (status ≡ 6)
-HasStatus ScriptRefused status read_fault write_fault = (status ≡ 3) ⊎ (status ≡ 6) ⊎ (status ≡ 4) × read_fault
-HasStatus (Complete lines) status read_fault write_fault =
+abbrev pub HasStatus : Result Plan Stop → ℕ → Type 0 → Type 0 → Type 0
+HasStatus (Ok plan) status read_fault write_fault =
     (status ≡ 0) ⊎ (status ≡ 6) ⊎ (status ≡ 4) × read_fault ⊎ (status ≡ 5) × write_fault
+HasStatus (Err (stop.Words fault)) status read_fault write_fault = (status ≡ 2) ⊎ (status ≡ 6)
+HasStatus (Err stop) status read_fault write_fault = (status ≡ status_of stop) ⊎ (status ≡ 6) ⊎ (status ≡ 4) × read_fault
 
 -- told bytes have grown by a text
 abbrev pub Adds : Option (List ℕ) → Option (List ℕ) → List ℕ → Type 0
@@ -73,37 +65,104 @@ pub record AddsPart (before now : Option (List ℕ)) (text : List ℕ) : Type 0 
   pub part : ℕ
   pub is : Adds before now (take part text)
 
--- the file is as before, or has the front of a text
-abbrev pub HasPart : List ℕ → List ℕ → Files → Files → Type 0
-HasPart name text old new = (new name ≡ old name) ⊎ (part : ℕ) × (new name ≡ Some (take part text))
+-- they have grown by a text, or by its front where the sink faulted
+abbrev pub Tells : Option (List ℕ) → Option (List ℕ) → List ℕ → Type 0 → Type 0
+Tells before now text sink_fault = Adds before now text ⊎ sink_fault × AddsPart before now text
 
--- the file has its text and no other has changed, and the sink has the summary
-pub record IsWritten (name text printed : List ℕ) (old new : Option Files) (before now : Option (List ℕ)) : Type 0 where
-  pub files : Changes old new (Sets name text)
-  pub sink : Adds before now printed
+-- the text that is written to a file of this name, if one is
+abbrev pub text_for : Outputs → List ℕ → Option (List ℕ)
+text_for outputs name = lookup (λ file. bytes_eq file name) outputs
 
--- of all that a part at most: no other file has changed
-pub record IsCutOff (name text printed : List ℕ) (old new : Option Files) (before now : Option (List ℕ)) : Type 0 where
-  pub others : Changes old new (SameBut name)
-  pub file : Changes old new (HasPart name text)
-  pub sink : AddsPart before now printed
+-- each of these files has its text, and every other file is as it was
+abbrev pub HasWritten : Outputs → Files → Files → Type 0
+HasWritten outputs old new = (name : List ℕ) → new name ≡ option_or (text_for outputs name) (old name)
 
--- what the run of a script writes: its replies to their file, and the summary
-abbrev pub IsDone : List (List ℕ) → List Line → Option Files → Option Files → Option (List ℕ) → Option (List ℕ) → Type 0
-IsDone words script = IsWritten (reply_name (script_name words)) (reply_file script) (summary script)
+-- a file has the front of a text, if there is one
+abbrev pub HasFront : Option (List ℕ) → Option (List ℕ) → Type 0
+HasFront None file = ⊥
+HasFront (Some text) file = (part : ℕ) × (file ≡ Some (take part text))
 
-abbrev pub IsBegun : List (List ℕ) → List Line → Option Files → Option Files → Option (List ℕ) → Option (List ℕ) → Type 0
-IsBegun words script = IsCutOff (reply_name (script_name words)) (reply_file script) (summary script)
+-- each of these files is as it was or has the front of its text, and every other file is as it was
+abbrev pub HasBegun : Outputs → Files → Files → Type 0
+HasBegun outputs old new = (name : List ℕ) → (new name ≡ old name) ⊎ HasFront (text_for outputs name) (new name)
 
--- the script that the run is of, where the files are told, with a fact of it
-pub record ForScript (words : List (List ℕ)) (files : Option Files) (fact : List Line → Type 0) : Type 0 where
-  pub script : List Line
-  pub is : EndsIn words files (Complete script)
-  pub holds : fact script
+-- all is written and the summary is printed
+pub record IsDone (replies : List ℕ) (plan : Plan) (old new : Option Files) (before now : Option (List ℕ)) : Type 0 where
+  pub files : Changes old new (HasWritten (outputs_of replies plan))
+  pub sink : Adds before now (summary plan)
 
--- the statuses of a run, and of these the refusals
+-- a file of the run could not be written whole, and nothing is printed yet
+pub record IsCutOff (replies : List ℕ) (plan : Plan) (name : List ℕ) (old new : Option Files) (before now : Option (List ℕ)) : Type 0 where
+  pub named : IsTrue (among (map (λ output. output.0) (outputs_of replies plan)) name)
+  pub files : Changes old new (HasBegun (outputs_of replies plan))
+  pub sink : now ≡ before
+
+-- all is written, and of the summary a front at most is printed
+pub record IsUnsaid (replies : List ℕ) (plan : Plan) (old new : Option Files) (before now : Option (List ℕ)) : Type 0 where
+  pub files : Changes old new (HasWritten (outputs_of replies plan))
+  pub sink : AddsPart before now (summary plan)
+
+-- how a plan that was begun is stopped; nothing is said after want of memory
+abbrev pub IsBrokenOff : List ℕ → Plan → Option Files → Option Files → Option (List ℕ) → Option (List ℕ) → Type 0 → Type 0 → Stop → Type 0
+IsBrokenOff replies plan old new before now write_fault sink_fault (stop.Write name) =
+    write_fault × IsCutOff replies plan name old new before now
+IsBrokenOff replies plan old new before now write_fault sink_fault stop.Print =
+    sink_fault × IsUnsaid replies plan old new before now
+IsBrokenOff replies plan old new before now write_fault sink_fault stop.Memory = ⊤
+IsBrokenOff replies plan old new before now write_fault sink_fault _ = ⊥
+
+-- neither files nor sink were touched
+pub record IsUntouched (old new : Option Files) (before now : Option (List ℕ)) : Type 0 where
+  pub files : new ≡ old
+  pub sink : now ≡ before
+
+-- the name of the file for the replies of the script that the words name
+abbrev pub replies_of : List (List ℕ) → List ℕ
+replies_of words = reply_name (script_name words)
+
+-- why a run stopped, and what it left
+abbrev pub StopsFor : List (List ℕ) → Option Files → Option Files → Option (List ℕ) → Option (List ℕ) → Type 0 → Type 0 → Type 0 → Stop → Type 0
+StopsFor words old new before now read_fault write_fault sink_fault (stop.Words fault) =
+    (job_of words ≡ Err fault) × IsUntouched old new before now
+StopsFor words old new before now read_fault write_fault sink_fault (stop.Write name) =
+    ForPlan words old (λ plan. IsBrokenOff (replies_of words) plan old new before now write_fault sink_fault (stop.Write name))
+StopsFor words old new before now read_fault write_fault sink_fault stop.Print =
+    ForPlan words old (λ plan. IsBrokenOff (replies_of words) plan old new before now write_fault sink_fault stop.Print)
+StopsFor words old new before now read_fault write_fault sink_fault stop.Memory = ⊤
+StopsFor words old new before now read_fault write_fault sink_fault stop =
+    StopsBy old (ending_of words) (inputs_of words) read_fault stop × IsUntouched old new before now
+
+-- a run that stopped: its status is that of a stop, whose text was told behind what the run had printed
+pub record IsStopped (words : List (List ℕ)) (old new : Option Files) (before now : Option (List ℕ)) (read_fault write_fault sink_fault : Type 0) (status : ℕ) : Type 0 where
+  pub stop : Stop
+  pub tells_stop : status ≡ status_of stop
+  pub printed : Option (List ℕ)
+  pub cause : StopsFor words old new before printed read_fault write_fault sink_fault stop
+  pub told : Tells printed now (stop_text stop) sink_fault
+
+-- the statuses of a run; of these those of a stop, and of these the refusals
 abbrev pub IsStatus : ℕ → Type 0
 IsStatus status = (status ≡ 0) ⊎ (2 ≤ status) × (status ≤ 6)
 
+abbrev pub IsStop : ℕ → Type 0
+IsStop status = (2 ≤ status) × (status ≤ 5)
+
 abbrev pub IsRefusal : ℕ → Type 0
 IsRefusal status = (status ≡ 2) ⊎ (status ≡ 3) ⊎ (status ≡ 4)
+
+-- the words, or want of memory, stopped it
+abbrev pub IsOfWords : {A : Type 0} → Result A Stop → Type 0
+IsOfWords (Err (stop.Words fault)) = ⊤
+IsOfWords (Err stop.Memory) = ⊤
+IsOfWords _ = ⊥
+
+-- where the words are told as refused, they are, with this fault
+abbrev pub IsRefusedBy : Result Job WordsFault → Stop → Type 0
+IsRefusedBy job (stop.Words fault) = job ≡ Err fault
+IsRefusedBy job _ = ⊤
+
+-- a text could not be printed whole, unless memory is wanting
+abbrev pub IsPrintStop : Option (List ℕ) → Option (List ℕ) → List ℕ → Type 0 → Stop → Type 0
+IsPrintStop before now text sink_fault stop.Memory = ⊤
+IsPrintStop before now text sink_fault stop.Print = sink_fault × AddsPart before now text
+IsPrintStop before now text sink_fault _ = ⊥

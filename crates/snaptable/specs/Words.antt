@@ -70,9 +70,9 @@ abbrev pub has_twice : List Text → Bool
 has_twice [] = false
 has_twice (text ∷ texts) = list_any (bytes_eq text) texts || has_twice texts
 
--- what a run can't do yet: several scripts, tables of another size, a final file, several workers
+-- what a run can't do yet: several scripts, tables of another size, a final file, scripts that are made
 abbrev pub asks_for_more : Arguments → Bool
-asks_for_more a = nat_lt 1 (length a.scripts) || (is_some a.rows || (is_some a.last || nat_lt 1 (number_or 1 a.workers)))
+asks_for_more a = nat_lt 1 (length a.scripts) || (is_some a.rows || (is_some a.last || is_some a.generate))
 
 -- the first fault of what the words give
 abbrev pub fault_in : Arguments → Option WordsFault
@@ -116,17 +116,3 @@ one_script name = record { rows = usual_rows; last = None; work = Scripts (name 
 pub record IsOneScript (job : Job) : Type 0 where
   pub name : Text
   pub is : job ≡ one_script name
-
--- a script that is made for one worker, on tables of that size
-abbrev pub one_made : ℕ → ℕ → Job
-one_made commands seed = record { rows = usual_rows; last = None; work = Made commands seed 1 }
-
-pub record IsOneMade (job : Job) : Type 0 where
-  pub commands : ℕ
-  pub seed : ℕ
-  pub is : job ≡ one_made commands seed
-  pub few : commands ≤ most_commands
-
--- a job that a run can do: one script, and it is that of the words, or one that is made
-abbrev pub IsReady : List Text → Job → Type 0
-IsReady words job = (job ≡ one_script (script_name words)) ⊎ IsOneMade job

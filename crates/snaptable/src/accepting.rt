@@ -1,92 +1,96 @@
-ghost use Rattle.std.specs.Prelude.{◌≡◌, ◌≢◌, ◌≤◌, ◌⊎◌, [], map, IfOk, IsErr, MatchOption};
+ghost use Rattle.std.specs.Prelude.{◌≡◌, ◌≤◌, None, Ok, IfOk, IfErr, OnOk, IsErr, map};
 ghost use Rattle.std.specs.String.{string_bytes};
 ghost use Rattle.snap_io.specs.Causes.{Rose};
+ghost use Rattle.snap_io.specs.Shelves.{IfTold};
 ghost use Rattle.snap_service.specs.Runs.{CanRunAll};
-ghost use Rattle.snaptable.specs.Words.{IsOneMade, IsOneScript, job_of, one_script, script_name};
-ghost use Rattle.snaptable.specs.Replies.{commands_of, first_state, needs_more, needs_more_somewhere, reply_name};
-ghost use Rattle.snaptable.specs.Outcomes.{EndsIn, LacksScript};
-ghost use Rattle.snaptable.specs.Outcomes.Ending.{Complete, ScriptRefused};
+ghost use Rattle.snaptable.specs.Words.{IsOneScript, job_of, one_script, script_name};
+ghost use Rattle.snaptable.specs.Needs.{commands_of, loads_named, passed_in, tables_named};
+ghost use Rattle.snaptable.specs.Inputs.{IsLimitStop, StopsBy};
+ghost use Rattle.snaptable.specs.Replies.{first_state, reply_name};
+ghost use Rattle.snaptable.specs.Outcomes.{IsOfWords, IsRefusedBy, ending_of, inputs_of, plan_of};
 
+use crate::loading::{read_lines, read_loads};
+use crate::needs::{Needs, NeedsFault, needs_of};
 use crate::outcome::Stop;
-use crate::reading::read_file;
-use crate::words::{DEFAULT_ROWS, Job, Work, read_words};
+use crate::words::{DEFAULT_ROWS, Job, NameList, Work, read_words};
 use snap_io::Shelf;
-use snap_model::{Command, Name, OutOfMemory};
-use snap_text::{Line, Script, read_script};
+use snap_model::{Name, OutOfMemory};
+use snap_service::Loads;
+use snap_text::{Line, Script};
 use std::alloc::Global;
 
-/// The most bytes of a script.
-const MOST_SCRIPT_BYTES: u64 = 4_194_304;
-
-/// A script that was accepted, and the name of the file for its replies.
+/// A script that was accepted, with all that its run needs.
 #[derive(Debug, Drop)]
 pub struct Accepted {
     pub script: Script,
+    /// The name of the file for the replies.
     pub replies: Name,
+    /// The names of the tables, the one on which the run begins first.
+    pub tables: NameList,
+    /// The load files that the script names.
+    pub loads: Loads,
     /// The rows of each table.
     pub rows: u32,
 }
 
-/// Reads the words and the script that they name.
+/// Reads the words, the script that they name, and the load files that it names.
 pub fn accept<S: Shelf>(alloc: Global, words: &[String], shelf: &mut S) -> Result<Accepted, Stop>
-    ensures script { IfOk result (λ accepted. EndsIn (map string_bytes words.now) (S.files shelf.old) (Complete accepted.script)) }
-    ensures commands { IfOk result (λ accepted. CanRunAll first_state [] (commands_of accepted.script)) }
+    ensures plan { IfOk result (λ accepted. IfTold (S.files shelf.old) (λ f. ending_of (map string_bytes words.now) f ≡ Ok (plan_of accepted.script accepted.loads))) }
+    ensures commands { IfOk result (λ accepted. CanRunAll (first_state accepted.tables) accepted.loads (commands_of accepted.script)) }
     ensures replies { IfOk result (λ accepted. accepted.replies ≡ reply_name (script_name (map string_bytes words.now))) }
+    ensures tables { IfOk result (λ accepted. accepted.tables ≡ tables_named (commands_of accepted.script)) }
+    ensures within { IfOk result (λ accepted. passed_in accepted.replies accepted.script ≡ None) }
     ensures rows { IfOk result (λ accepted. accepted.rows ≡ DEFAULT_ROWS) }
 
-    ensures words { result ≡ Err Stop.Words → IsErr (job_of (map string_bytes words.now)) }
-    ensures words_refused { IsErr (job_of (map string_bytes words.now)) → (result ≡ Err Stop.Words) ⊎ (result ≡ Err Stop.Memory) }
-    ensures refused { result ≡ Err Stop.Script → EndsIn (map string_bytes words.now) (S.files shelf.old) ScriptRefused }
-    ensures unread { result ≡ Err Stop.Read → Rose (S.read_faults shelf.old) (S.read_faults shelf.new) ⊎ LacksScript (map string_bytes words.now) (S.files shelf.old) }
-    ensures reads_only { result ≢ Err Stop.Write }
+    ensures words { IfErr result (λ stop. IsRefusedBy (job_of (map string_bytes words.now)) stop) }
+    ensures words_refused { IsErr (job_of (map string_bytes words.now)) → IsOfWords result }
+    ensures stops { IfErr result (StopsBy (S.files shelf.old) (ending_of (map string_bytes words.now)) (inputs_of (map string_bytes words.now)) (Rose (S.read_faults shelf.old) (S.read_faults shelf.new))) }
 
     ensures later { S.read_faults shelf.old ≤ S.read_faults shelf.new }
     ensures files { S.files shelf.new ≡ S.files shelf.old }
     ensures writes { S.write_faults shelf.new ≡ S.write_faults shelf.old }
 {
     let job = read_words(alloc, words)?;
-    // A script that is made can't be run yet.
-    let Some(name) = script_of(&job) else {
-        return Err(Stop::Script);
-    };
-    let bytes = read_file(alloc, shelf, name.text(), MOST_SCRIPT_BYTES)?;
-    let script = read_script(alloc, &bytes)?;
-    if needs_more_somewhere(script.lines()) {
-        return Err(Stop::Script);
-    }
+    let name = script_of(&job);
+    let script = read_lines(alloc, shelf, name)?;
     let replies = reply_name(alloc, name)?;
+    let Needs { tables, loads } = needs_within(alloc, name, &replies, script.lines())?;
+    let loads = read_loads(alloc, shelf, loads.list())?;
     Ok(Accepted {
         script,
         replies,
+        tables,
+        loads,
         rows: job.rows,
     })
 }
 
-// Whether some command needs more than one table and one file, which a run doesn't have yet.
-fn needs_more_somewhere(lines: &[Line]) -> bool
-    ensures { result ≡ needs_more_somewhere lines.now }
+// What a script needs, unless a line passes a limit.
+fn needs_within(alloc: Global, name: &Name, replies: &Name, script: &[Line]) -> Result<Needs, Stop>
+    ensures tables { IfOk result (λ needs. needs.tables ≡ tables_named (commands_of script.now)) }
+    ensures loads { IfOk result (λ needs. needs.loads ≡ loads_named (commands_of script.now)) }
+    ensures within { OnOk result (passed_in replies.now script.now ≡ None) }
+    ensures stops { IfErr result (IsLimitStop name.now (passed_in replies.now script.now)) }
 {
-    lines.iter().any(|line| needs_more(&line.command))
-}
-
-fn needs_more(command: &Command) -> bool
-    ensures { result ≡ needs_more command.now }
-{
-    match command {
-        Command::Table { .. } | Command::Export { .. } | Command::Load { .. } => true,
-        _ => false,
+    match needs_of(alloc, replies, script) {
+        Ok(needs) => Ok(needs),
+        Err(NeedsFault::Line(passed)) => Err(Stop::Limit {
+            script: Name::new(alloc, name.text())?,
+            passed,
+        }),
+        Err(NeedsFault::Memory) => Err(Stop::Memory),
     }
 }
 
-// The script of a job that names one.
-fn script_of(job: &Job) -> Option<&Name>
-    requires { IsOneScript job.now ⊎ IsOneMade job.now }
-    ensures { MatchOption result (IsOneMade job.now) (λ name. job.now ≡ one_script name.now) }
+// The script of a job that has one.
+fn script_of(job: &Job) -> &Name
+    requires { IsOneScript job.now }
+    ensures { job.now ≡ one_script result.now }
 {
-    match &job.work {
-        Work::Scripts { names } => names.list().first(),
-        Work::Made { .. } => None,
-    }
+    let Work::Scripts { names } = &job.work else {
+        unreachable!()
+    };
+    &names.list()[0]
 }
 
 // The name of a script's reply file.

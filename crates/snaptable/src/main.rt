@@ -6,12 +6,16 @@ mod carrying;
 mod checking;
 mod command_line;
 mod generating;
+mod loading;
+mod needs;
 mod outcome;
 mod reading;
 mod run;
 mod summary;
+mod telling;
 mod words;
 mod worker;
+mod writing;
 
 use run::run;
 use snap_io::{DiskShelf, FreeTurn, StdSink};

@@ -2,7 +2,7 @@ ghost use Rattle.std.specs.Prelude.{◌≡◌, ◌⊎◌, [], ◌∷◌, ◌++�
 ghost use Rattle.std.specs.String.{string_bytes};
 ghost use Rattle.snaptable.specs.Checks.{numbers_in};
 ghost use Rattle.snaptable.specs.Givens.{given_by};
-ghost use Rattle.snaptable.specs.Words.{IsReady, job_in, job_of};
+ghost use Rattle.snaptable.specs.Words.{job_in, job_of, one_script, script_name};
 
 use crate::checking::{Numbers, check};
 use crate::command_line::{Given, match_words};
@@ -32,7 +32,7 @@ pub enum WordsFault {
     /// Two of the files that are to be written have one name.
     #[error("output")]
     Output,
-    /// Nothing of that, but more than one script or worker, or an option that no run has yet.
+    /// Nothing of that, but more than one script, or an option that no run has yet.
     #[error("not yet")]
     NotYet,
     /// Want of memory.
@@ -132,8 +132,7 @@ pub struct Job {
 pub fn read_words(alloc: Global, words: &[String]) -> Result<Job, WordsFault>
     ensures ok { IfOk result (λ job. job_of (map string_bytes words.now) ≡ Ok job) }
     ensures refused { IfErr result (λ fault. (fault ≡ WordsFault.Memory) ⊎ (job_of (map string_bytes words.now) ≡ Err fault)) }
-    // A job that is answered is one that a run can do.
-    ensures ready { IfOk result (IsReady (map string_bytes words.now)) }
+    ensures one { IfOk result (λ job. job ≡ one_script (script_name (map string_bytes words.now))) }
 {
     let matches = match_words(alloc, words)?;
     let given = Given::of(&matches);

@@ -125,32 +125,13 @@ fn one_script_is_taken(rt: HostRuntime) -> Result<(), Fail> {
 }
 
 #[test]
-fn one_made_script_is_taken(rt: HostRuntime) -> Result<(), Fail> {
-    let cases: [(&[&str], u32, u32); 3] = [
-        (&["--generate", "1"], 1, 1),
-        (
-            &["--generate=1000000", "--seed=2147483647", "--workers", "1"],
-            1_000_000,
-            2_147_483_647,
-        ),
-        (&["--seed", "0", "--generate=0010"], 10, 0),
+fn made_scripts_are_not_run_yet(rt: HostRuntime) -> Result<(), Fail> {
+    let lines: [&[&str]; 3] = [
+        &["--generate", "1"],
+        &["--generate=1000000", "--seed=2147483647", "--workers", "1"],
+        &["--seed", "0", "--generate=0010"],
     ];
-    for (words, wanted_commands, wanted_seed) in cases {
-        let Job { rows, last, work } = read(rt.alloc(), words)?.ok().ok_or("refused")?;
-        assert_eq!(rt; rows, 65_536);
-        assert!(rt; last.is_none());
-        let Work::Made {
-            commands,
-            seed,
-            workers,
-        } = work
-        else {
-            return Err(Fail::from("named"));
-        };
-        assert_eq!(rt; commands, wanted_commands);
-        assert_eq!(rt; seed, wanted_seed);
-        assert_eq!(rt; workers, 1);
-    }
+    assert!(rt; are_refused(rt.alloc(), &lines, WordsFault::NotYet)?);
     Ok(())
 }
 
