@@ -15,4 +15,4 @@ open_gate-requires-clause-closing g c =
     let closed : c.try_close.new.pass.view.stage ≡ Closing 3 false false = ap (λ (k : Known). k.view.stage) c.in-Ok-try_close.ensures.ok in
     let left : c.load_left.result ≡ 1 = search rules in
     let quiet : c.load_left.new.pass.view.stage ≡ Closing 3 true false = ap (λ (k : Known). k.view.stage) c.load_left.ensures ∙ (λ i. after_left (closed i) (left i)) in
-    (3, true, true, ap (λ (k : Known). k.view.stage) c.cut.ensures.2 ∙ ap after_cut quiet)
+    (3, true, true, ap (λ (k : Known). k.view.stage) c.cut.ensures.5 ∙ ap after_cut quiet)
