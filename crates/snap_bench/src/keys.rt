@@ -25,3 +25,8 @@ impl Keys {
         (self.state >> 33) % KEYS
     }
 }
+
+/// The key of a number: different numbers have different keys, in an order as if by lot.
+pub fn spread(number: u32) -> u64 {
+    (number as u64).wrapping_mul(0x9e37_79b9_7f4a_7c15)
+}

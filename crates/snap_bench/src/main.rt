@@ -1,49 +1,65 @@
 //! How fast threads put, get and remove on one map: a table beside the standard sorted map under a lock.
 #![tactic(auto)]
 
+mod clones;
 mod contest;
 mod fault;
 mod keys;
 mod rounds;
 mod workers;
 
+use clones::{CloneCost, clone_cost, scan_rate};
 use fault::Fault;
 use rounds::{Rates, of_mutex, of_rwlock, of_table};
+use std::alloc::Global;
 use std::env;
 use std::io::Print;
+use std::sync::Wait;
+use std::thread::Threads;
+use std::time::Clock;
+
+/// How many calls of each kind each thread makes.
+const CALLS: u32 = 1_000_000;
 
 /// How many threads each round has.
 const THREADS: [u32; 3] = [1, 2, 4];
 
+/// How large the maps are of which clones are made.
+const SIZES: [u32; 4] = [1_000, 10_000, 100_000, 1_000_000];
+
+/// How many threads write while a clone is read.
+const WRITERS: [u32; 3] = [0, 1, 3];
+
 fn main(rt: HostRuntime) -> Result<(), Fault> {
     let mut words = env::args(&rt)?;
     words.next();
-    let Some(word) = words.next() else {
-        println!(rt; "snap_bench COUNT: each thread makes so many calls of each kind")?;
-        return Ok(());
-    };
-    let Ok(count) = word.as_str().parse::<u32>() else {
-        return Err(Fault::Usage);
-    };
+    match words.next() {
+        None => {
+            println!(rt; "snap_bench maps: puts, gets and removals of several threads")?;
+            println!(rt; "snap_bench clones: what clones cost")?;
+            Ok(())
+        }
+        Some(word) if word.as_str() == "maps" => time_maps(&rt, rt.alloc()),
+        Some(word) if word.as_str() == "clones" => time_clones(&rt, rt.alloc()),
+        Some(_) => Err(Fault::Usage),
+    }
+}
+
+fn time_maps<R: Print + Threads + Wait + Clock + Sync>(rt: &R, alloc: Global) -> Result<(), Fault> {
     println!(rt; "map, threads, puts, gets, removals a second")?;
     for threads in THREADS {
         show(
-            &rt,
+            rt,
             "SnapTable",
             threads,
-            &of_table(&rt, rt.alloc(), threads, count)?,
+            &of_table(rt, alloc, threads, CALLS)?,
         )?;
+        show(rt, "Mutex", threads, &of_mutex(rt, alloc, threads, CALLS)?)?;
         show(
-            &rt,
-            "Mutex",
-            threads,
-            &of_mutex(&rt, rt.alloc(), threads, count)?,
-        )?;
-        show(
-            &rt,
+            rt,
             "RwLock",
             threads,
-            &of_rwlock(&rt, rt.alloc(), threads, count)?,
+            &of_rwlock(rt, alloc, threads, CALLS)?,
         )?;
     }
     Ok(())
@@ -56,5 +72,24 @@ fn show<R: Print>(rt: &R, map: &str, threads: u32, rates: &Rates) -> Result<(), 
         removals,
     } = rates;
     println!(rt; "{map}, {threads}, {puts}, {gets}, {removals}")?;
+    Ok(())
+}
+
+fn time_clones<R: Print + Threads + Wait + Clock + Sync>(
+    rt: &R,
+    alloc: Global,
+) -> Result<(), Fault> {
+    println!(rt;
+        "pairs, nanoseconds of a clone, rows of the first write behind it, nanoseconds of a copy"
+    )?;
+    for size in SIZES {
+        let CloneCost { clone, drawn, copy } = clone_cost(rt, alloc, size)?;
+        println!(rt; "{size}, {clone}, {drawn}, {copy}")?;
+    }
+    println!(rt; "writers, pairs of a clone of 100000 a second")?;
+    for writers in WRITERS {
+        let rate = scan_rate(rt, alloc, 100_000, writers)?;
+        println!(rt; "{writers}, {rate}")?;
+    }
     Ok(())
 }

@@ -1,12 +1,10 @@
 //! The rounds of each map: all puts, then all gets, then all removals.
-ghost use Rattle.std.specs.Prelude.{IfOk, All, ◌≤◌, ◌<◌};
-ghost use Rattle.snap_bench.specs.Passes.{IsAtRest};
+ghost use Rattle.std.specs.Prelude.{◌≤◌, ◌<◌};
 
 use crate::contest::{Kind, race};
 use crate::fault::Fault;
 use crate::keys::KEYS;
-use crate::workers::{OfMutex, OfRwLock, OfTable, Sorted, Worker};
-use snap_table::{Pass, SnapTable};
+use crate::workers::{OfMutex, OfRwLock, Sorted, Worker, open_table, workers_of};
 use std::alloc::Global;
 use std::sync::{Mutex, RwLock, Wait};
 use std::thread::Threads;
@@ -29,25 +27,9 @@ pub fn of_table<R: Threads + Wait + Clock + Sync>(
     requires few { threads ≤ 16 }
     requires some { 0 < threads }
 {
-    let (table, passes) = SnapTable::open(alloc, KEYS as u32, threads * 3)?;
+    let (table, passes) = open_table(alloc, KEYS as u32, threads * 3)?;
     let mut workers = workers_of(alloc, &table, passes)?;
     three_races(rt, &mut workers, threads, count)
-}
-
-fn workers_of<'t>(
-    alloc: Global,
-    table: &'t SnapTable,
-    passes: Vec<Pass>,
-) -> Result<Vec<OfTable<'t>>, Fault>
-    requires { All (IsAtRest table.now) passes.items }
-{
-    let mut workers = Vec::new(alloc);
-    for pass in passes {
-        if workers.push(OfTable::new(table, pass)).is_err() {
-            return Err(Fault::Memory);
-        }
-    }
-    Ok(workers)
 }
 
 pub fn of_mutex<R: Threads + Wait + Clock + Sync>(

@@ -1,8 +1,10 @@
 //! What a thread works with: its own way into a map that it shares with the others.
+ghost use Rattle.std.specs.Prelude.{All, IfOk, ◌<◌, ◌≤◌};
 ghost use Rattle.snap_bench.specs.Passes.{IsAtRest};
 
 use crate::fault::Fault;
 use snap_table::{Pass, SnapTable};
+use snap_view::TableView;
 use std::alloc::Global;
 use std::collections::BTreeMap;
 use std::sync::{Mutex, RwLock, Wait};
@@ -34,6 +36,45 @@ impl<'t> OfTable<'t> {
     {
         OfTable { table, pass }
     }
+
+    /// A clone of the table.
+    pub fn clone_view<R: Wait>(&mut self, rt: &R) -> Result<TableView<'t>, Fault> {
+        if self.pass.uses() >= MOST_USES {
+            return Err(Fault::Out);
+        }
+        Ok(self.table.clone_view(rt, &mut self.pass))
+    }
+
+    /// How many rows were handed out.
+    pub fn drawn_rows(&mut self) -> u32 {
+        self.table.drawn_rows(&mut self.pass)
+    }
+}
+
+/// A table of so many rows, and its passes, all at rest.
+pub fn open_table(alloc: Global, rows: u32, passes: u32) -> Result<(SnapTable, Vec<Pass>), Fault>
+    requires rows { (0 < rows) × (rows ≤ 1048576) }
+    requires passes { (0 < passes) × (passes ≤ 64) }
+    ensures { IfOk result (λ t. All (IsAtRest t.0) t.1.items) }
+{
+    Ok(SnapTable::open(alloc, rows, passes)?)
+}
+
+/// A worker for each of the passes.
+pub fn workers_of<'t>(
+    alloc: Global,
+    table: &'t SnapTable,
+    passes: Vec<Pass>,
+) -> Result<Vec<OfTable<'t>>, Fault>
+    requires { All (IsAtRest table.now) passes.items }
+{
+    let mut workers = Vec::new(alloc);
+    for pass in passes {
+        if workers.push(OfTable::new(table, pass)).is_err() {
+            return Err(Fault::Memory);
+        }
+    }
+    Ok(workers)
 }
 
 /// How many uses a pass may have.
