@@ -90,7 +90,7 @@ leaves_way = record {
       ordered = (omega arith, omega arith, (omega arith, omega arith, tt, tt), tt);
       rows = λ n h. row n (rows n h);
     };
-    present = record { stands = λ n h u r. present n h; replaced = λ n h. absurd h };
+    present = record { stands = λ n h u r. present n h; replaced = λ n h. absurd h; gone = λ n h i. h };
     links = record { no_zero = λ h. elim h [ inl e ↦ absurd (omega (arith, e)) | inr i ↦ elim i [ inl e ↦ absurd (omega (arith, e)) | inr j ↦ absurd j ] ]; links = leads; births = λ n h. omega arith; zero_stamp = refl; zero_left = refl };
     sharing = record { links = λ n d h u. absurd (not_shared n u) };
     changes = record { fits = λ n d h. fits n d (which n h); live = in_change };

@@ -11,7 +11,7 @@ pub opens : TableOk opened × NoneWrites opened
 opens = (
   record {
     tree = record { tells = told_nothing; reads = tt; root = refl; ordered = tt; rows = λ n h. absurd h };
-    present = record { stands = λ n h. absurd h; replaced = λ n h. absurd h };
+    present = record { stands = λ n h. absurd h; replaced = λ n h. absurd h; gone = λ n h i. h };
     links = record { no_zero = λ h. h; links = λ n d h. inl refl; births = λ n h. absurd h; zero_stamp = refl; zero_left = refl };
     sharing = record { links = λ n d h. absurd h };
     changes = record { fits = λ n d h. refl; live = λ n d h. absurd (h refl) };

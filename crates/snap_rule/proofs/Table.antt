@@ -156,7 +156,7 @@ module _ (s : State) (ok : TableOk s) where
       let live : (n : ℕ) → IsLive s n → IsLive s' n = λ n l. record { stands = l.stands; own = λ u. l.own (record { is_row = u.is_row; older = u.older }) } in
       record {
         tree = record { tells = ok.tree.tells; reads = reads_same s s' s.links s.links s.tree ok.tree.reads (λ n h. (refl, refl, refl, λ d. refl)); root = ok.tree.root; ordered = ok.tree.ordered; rows = ok.tree.rows };
-        present = record { stands = ok.present.stands; replaced = λ n h. let r = ok.present.replaced n h in (r.0, record { is_row = r.1.is_row; older = r.1.older }) };
+        present = record { stands = ok.present.stands; replaced = λ n h. let r = ok.present.replaced n h in (r.0, record { is_row = r.1.is_row; older = r.1.older }); gone = ok.present.gone };
         links = record { no_zero = ok.links.no_zero; links = ok.links.links; births = ok.links.births; zero_stamp = ok.links.zero_stamp; zero_left = ok.links.zero_left };
         sharing = sharing_kept s s' (λ n h u. (h, record { is_row = u.is_row; older = u.older })) (λ n d h u. refl) (λ n u. record { is_row = u.is_row; older = u.older }) ok.sharing;
         changes = record { fits = λ n d h. fits_kept s s' n d (s.pending n d) refl refl (λ c u. u) (λ c q u. u) (λ c q l u. (live c l, u)) (ok.changes.fits n d h); live = λ n d z. live_on s s' n (live n) (ok.changes.live n d z) };
@@ -169,7 +169,7 @@ module _ (s : State) (ok : TableOk s) where
       let live : (n : ℕ) → IsLive s n → IsLive s' n = λ n l. record { stands = l.stands; own = λ u. l.own (record { is_row = u.is_row; older = u.older }) } in
       record {
         tree = record { tells = ok.tree.tells; reads = reads_same s s' s.links s.links s.tree ok.tree.reads (λ n h. (refl, refl, refl, λ d. refl)); root = ok.tree.root; ordered = ok.tree.ordered; rows = ok.tree.rows };
-        present = record { stands = ok.present.stands; replaced = λ n h. let r = ok.present.replaced n h in (r.0, record { is_row = r.1.is_row; older = r.1.older }) };
+        present = record { stands = ok.present.stands; replaced = λ n h. let r = ok.present.replaced n h in (r.0, record { is_row = r.1.is_row; older = r.1.older }); gone = ok.present.gone };
         links = record { no_zero = ok.links.no_zero; links = ok.links.links; births = ok.links.births; zero_stamp = ok.links.zero_stamp; zero_left = ok.links.zero_left };
         sharing = sharing_kept s s' (λ n h u. (h, record { is_row = u.is_row; older = u.older })) (λ n d h u. refl) (λ n u. record { is_row = u.is_row; older = u.older }) ok.sharing;
         changes = record { fits = λ n d h. fits_kept s s' n d (s.pending n d) refl refl (λ c u. u) (λ c q u. u) (λ c q l u. (live c l, u)) (ok.changes.fits n d h); live = λ n d z. live_on s s' n (live n) (ok.changes.live n d z) };
@@ -187,7 +187,7 @@ module _ (s : State) (ok : TableOk s) where
       let live : (n : ℕ) → IsLive s n → IsLive s' n = λ n i. record { stands = i.stands; own = λ u. i.own (back n (there n i.stands) u) } in
       record {
         tree = record { tells = ok.tree.tells; reads = reads_same s s' s.links s.links s.tree ok.tree.reads (λ n i. let z = linked_other s row n may (inr (there n i)) in (changed_other s.key row k n z, changed_other s.value row v n z, changed_other s.height row h n z, λ d. refl)); root = ok.tree.root; ordered = ok.tree.ordered; rows = ok.tree.rows };
-        present = record { stands = ok.present.stands; replaced = λ n i. let r = ok.present.replaced n i in (r.0, on n r.0 r.1) };
+        present = record { stands = ok.present.stands; replaced = λ n i. let r = ok.present.replaced n i in (r.0, on n r.0 r.1); gone = ok.present.gone };
         links = record { no_zero = ok.links.no_zero; links = λ n d i. subst (λ (x : ℕ). (x ≡ 0) ⊎ In x s.linked) (sym (link n d i)) (ok.links.links n d i); births = λ n i. subst (λ (x : ℕ). x ≤ s.epoch) (sym (birth n i)) (ok.links.births n i); zero_stamp = ok.links.zero_stamp; zero_left = link 0 Left (inl refl) ∙ ok.links.zero_left };
         sharing = record { links = λ n d i u z. let e = link n d (inr (there n i)) in subst (IsShared s') (sym e) (on (s.link n d) (go_linked (ok.links.links n d (inr (there n i))) (λ q. z (e ∙ q))) (ok.sharing.links n d i (back n (there n i) u) (λ q. z (e ∙ q)))) };
         changes = record { fits = λ n d i. fits_kept s s' n d (s.pending n d) (link n d (reached n i)) refl (λ c u. u) (λ c q u. u) (λ c q j u. (live c j, u)) (ok.changes.fits n d i); live = λ n d z. live_on s s' n (live n) (ok.changes.live n d z) };
@@ -235,7 +235,7 @@ absent_keeps s e ok may =
         ordered = ok.tree.ordered;
         rows = ok.tree.rows;
       };
-      present = record { stands = ok.present.stands; replaced = λ n h. let r = ok.present.replaced n h in (r.0, record { is_row = r.1.is_row; older = r.1.older }) };
+      present = record { stands = ok.present.stands; replaced = λ n h. let r = ok.present.replaced n h in (r.0, record { is_row = r.1.is_row; older = r.1.older }); gone = ok.present.gone };
       links = record { no_zero = ok.links.no_zero; links = ok.links.links; births = ok.links.births; zero_stamp = ok.links.zero_stamp; zero_left = ok.links.zero_left };
       sharing = sharing_kept s s' (λ n h u. (h, record { is_row = u.is_row; older = u.older })) (λ n d h u. refl) (λ n u. record { is_row = u.is_row; older = u.older }) ok.sharing;
       changes = record { fits = λ n d h. fits_kept s s' n d (s.pending n d) refl refl (λ c u. u) (λ c q u. u) (λ c q l u. (live c l, u)) (ok.changes.fits n d h); live = λ n d z. live_on s s' n (live n) (ok.changes.live n d z) };

@@ -28,10 +28,12 @@ pub record TreeOk (s : State) : Type 0 where
   pub ordered : Between 0 (2 ^ 64) s.tree
   pub rows : (n : ℕ) → Stands n s.tree → In n s.linked × ¬ IsUnlinked (s.stamp n)
 
--- a row that was linked stands in the tree, unless it is unlinked or a copy replaced it; what was replaced is shared
+-- a row that was linked stands in the tree, unless it is unlinked or a copy replaced it; what was replaced is shared, and
+-- stands in the tree no more
 pub record PresentOk (s : State) : Type 0 where
   pub stands : (n : ℕ) → In n s.linked → ¬ IsUnlinked (s.stamp n) → ¬ In n s.replaced → Stands n s.tree
   pub replaced : (n : ℕ) → In n s.replaced → In n s.linked × IsShared s n
+  pub gone : (n : ℕ) → In n s.replaced → ¬ Stands n s.tree
 
 -- links lead to rows that were linked, and births are of the past. Row 0 is none of these rows; its stamp and its left link are 0
 pub record LinksOk (s : State) : Type 0 where

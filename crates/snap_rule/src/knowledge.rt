@@ -1,6 +1,6 @@
 //! What loaded words tell of the tree, and what a clone reads.
 
-ghost use Rattle.snap_rule.specs.Laws.Knowledge.{AbsentBelow, AbsentHere, CutImage, FindAt, ImageKept, LiveKnown, TreePairs};
+ghost use Rattle.snap_rule.specs.Laws.Knowledge.{AbsentBelow, AbsentHere, CutImage, FindAt, ImageKept, LiveKnown, ReplacedOnce, TreePairs};
 
 /// Birth and stamp, loaded in a write, make a row live.
 pub fn live_known()
@@ -35,4 +35,9 @@ pub fn cut_image()
 /// The image of a shared row stays as it is.
 pub fn image_kept()
     ensures { ImageKept }
+{}
+
+/// What a copy replaced stands in the tree no more, so no row is replaced twice.
+pub fn replaced_once()
+    ensures { ReplacedOnce }
 {}

@@ -20,7 +20,7 @@ use Rattle.snap_rule.specs.Kinds.Rotation.{shrinking_marked, lowered_linked, rai
 use Rattle.snap_rule.specs.Kinds.Words.{height_stored}
 use Rattle.snap_rule.proofs.Updates.{changed_same, changed_other}
 use Rattle.snap_rule.proofs.Trees.{child, reads_child, root_empty}
-use Rattle.snap_rule.proofs.Trees.Rows.{stands_with_value, stands_with_height, stands_renamed, stands_without, stands_rotated, stands_grown}
+use Rattle.snap_rule.proofs.Trees.Rows.{stands_with_value, with_value_stands, stands_with_height, with_height_stands, stands_renamed, renamed_stands, stands_without, without_stands, stands_rotated, rotated_stands, stands_grown, grown_stands}
 use Rattle.snap_rule.proofs.Trees.Ways.{thin}
 use Rattle.snap_rule.proofs.Evolving.Telling.{unlink_thin}
 use Rattle.snap_rule.proofs.Parts.Tree.{row_stands}
@@ -72,54 +72,63 @@ module _ (s : State) (ok : PresentOk s) where
   store_present row e = record {
     stands = λ n h u r. stands_with_value row (call_value e.call) s.tree n (ok.stands n h u r);
     replaced = λ n h. let r = ok.replaced n h in (r.0, record { is_row = r.1.is_row; older = r.1.older });
+    gone = λ n h i. ok.gone n h (with_value_stands row (call_value e.call) s.tree n i);
   }
 
   pub height_present : (row x : ℕ) → PresentOk (height_stored s row x)
   height_present row x = record {
     stands = λ n h u r. stands_with_height row x s.tree n (ok.stands n h u r);
     replaced = λ n h. let r = ok.replaced n h in (r.0, record { is_row = r.1.is_row; older = r.1.older });
+    gone = λ n h i. ok.gone n h (with_height_stands row x s.tree n i);
   }
 
   pub cut_present : PresentOk (cut s)
   cut_present = record {
     stands = ok.stands;
     replaced = λ n h. let r = ok.replaced n h in (r.0, record { is_row = r.1.is_row; older = let o = r.1.older in omega arith });
+    gone = ok.gone;
   }
 
   pub splice_present : (parent : ℕ) (d : Side) → PresentOk (spliced s parent d)
   splice_present parent d = record {
     stands = ok.stands;
     replaced = λ n h. let r = ok.replaced n h in (r.0, record { is_row = r.1.is_row; older = r.1.older });
+    gone = ok.gone;
   }
 
   pub lower_present : (row : ℕ) (d : Side) (raised : ℕ) → PresentOk (lowered_linked s row d raised)
   lower_present row d raised = record {
     stands = ok.stands;
     replaced = λ n h. let r = ok.replaced n h in (r.0, record { is_row = r.1.is_row; older = r.1.older });
+    gone = ok.gone;
   }
 
   pub lift_present : (row : ℕ) (d : Side) (raised : ℕ) → PresentOk (raised_linked s row d raised)
   lift_present row d raised = record {
     stands = ok.stands;
     replaced = λ n h. let r = ok.replaced n h in (r.0, record { is_row = r.1.is_row; older = r.1.older });
+    gone = ok.gone;
   }
 
   pub raise_present : (parent : ℕ) (p : Side) (row : ℕ) (d : Side) (raised : ℕ) → PresentOk (parent_linked s parent p row d raised)
   raise_present parent p row d raised = record {
     stands = λ n h u r. stands_rotated row d s.tree n (ok.stands n h u r);
     replaced = λ n h. let r = ok.replaced n h in (r.0, record { is_row = r.1.is_row; older = r.1.older });
+    gone = λ n h i. ok.gone n h (rotated_stands row d s.tree n i);
   }
 
   pub shrink_present : (row : ℕ) → PresentOk (shrinking_marked s row)
   shrink_present row = record {
     stands = λ n h u r. ok.stands n h (λ m. u (still_unlinked s row n m)) r;
     replaced = λ n h. let r = ok.replaced n h in (r.0, record { is_row = r.1.is_row; older = r.1.older });
+    gone = ok.gone;
   }
 
   pub clear_present : (row : ℕ) → PresentOk (shrinking_cleared s row)
   clear_present row = record {
     stands = λ n h u r. ok.stands n h (λ m. u (still_unlinked s row n m)) r;
     replaced = λ n h. let r = ok.replaced n h in (r.0, record { is_row = r.1.is_row; older = r.1.older });
+    gone = ok.gone;
   }
 
   pub unlink_present : (parent : ℕ) (d : Side) (row : ℕ) → TreeOk s → ChangesOk s → MayMarkUnlinked s parent d row
@@ -131,6 +140,7 @@ module _ (s : State) (ok : PresentOk s) where
         stands = λ n h u r. let z : n ≢ row = λ q. u (subst (λ (x : ℕ). IsUnlinked (changed s.stamp row (s.stamp row + 1) x)) (sym q) marked) in
             stands_without row s.tree n z lean (ok.stands n h (λ m. u (subst IsUnlinked (sym (changed_other s.stamp row (s.stamp row + 1) n z)) m)) r);
         replaced = λ n h. let r = ok.replaced n h in (r.0, record { is_row = r.1.is_row; older = r.1.older });
+        gone = λ n h i. ok.gone n h (without_stands row s.tree n i);
       }
 
   pub copy_present : (parent : ℕ) (d : Side) (row copy : ℕ) → TreeOk s → LinksOk s → ChangesOk s → MayLinkCopy s parent d row copy
@@ -148,6 +158,10 @@ module _ (s : State) (ok : PresentOk s) where
           | inl q ↦ (inr (subst (λ (x : ℕ). In x s.linked) (sym q) (tree_ok.rows row there).0), subst (IsShared (copy_linked s parent d row copy)) (sym q) (record { is_row = may.shared.is_row; older = may.shared.older }))
           | inr i ↦ (let r = ok.replaced n i in (inr r.0, record { is_row = r.1.is_row; older = r.1.older }))
         ];
+        gone = λ n h i. elim (renamed_stands row copy s.tree n i) [
+          | inl q ↦ may.fresh (subst (λ (x : ℕ). In x s.linked) q (elim h [ inl e ↦ subst (λ (x : ℕ). In x s.linked) (sym e) (tree_ok.rows row there).0 | inr j ↦ (ok.replaced n j).0 ]))
+          | inr m ↦ elim h [ inl e ↦ m.0 e | inr j ↦ ok.gone n j m.1 ]
+        ];
       }
     where
       place : IsParent s parent d → (parent ≡ 0) ⊎ Stands parent s.tree
@@ -164,6 +178,7 @@ module _ (s : State) (ok : PresentOk s) where
           | inr i ↦ stands_grown parent d (leaf_of row x) s.tree n (ok.stands n i u r)
         ];
         replaced = λ n h. let r = ok.replaced n h in (inr r.0, record { is_row = r.1.is_row; older = r.1.older });
+        gone = λ n h i. elim (grown_stands parent d (leaf_of row x) s.tree n i) [ inl q ↦ may.fresh (subst (λ (y : ℕ). In y s.linked) q (ok.replaced n h).0) | inr j ↦ ok.gone n h j ];
       }
     where
       place : IsParent s parent d → (parent ≡ 0) ⊎ Stands parent s.tree
@@ -180,3 +195,14 @@ live_known s ok n h b u = record {
   stands = ok.stands n h u (λ r. let o = (ok.replaced n r).1.older in omega (arith, b));
   own = λ o. let q = o.older in omega (arith, b);
 }
+
+-- a shared child that a copy replaces was not replaced before
+pub copy_once : (s : State) → PresentOk s → TreeOk s → LinksOk s → ChangesOk s → (parent : ℕ) (d : Side) (row copy : ℕ) → MayLinkCopy s parent d row copy → ¬ In row s.replaced
+copy_once s ok tree_ok links_ok changes_ok parent d row copy may r = ok.gone row r (row_stands s tree_ok links_ok parent d row may.parent_live child (let p = may.shared.is_row in λ q. omega arith))
+  where
+    place : IsParent s parent d → (parent ≡ 0) ⊎ Stands parent s.tree
+    place (inl q) = inl q.0
+    place (inr l) = inr l.stands
+
+    child : s.links parent d ≡ row
+    child = sym (subst (Fits s parent d) may.no_change (changes_ok.fits parent d (place may.parent_live))) ∙ may.child

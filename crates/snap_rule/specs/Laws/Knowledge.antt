@@ -6,12 +6,12 @@ use Rattle.snap_stamp.specs.Stamps.{IsUnlinked}
 use Rattle.snap_stamp.specs.declared.side.Side.{Side}
 use Rattle.snap_stamp.specs.declared.side.Side.TheVariants.{Right}
 use Rattle.snap_rule.specs.Evolves.{Evolves}
-use Rattle.snap_rule.specs.Kinds.Clones.{MayCut, cut}
+use Rattle.snap_rule.specs.Kinds.Clones.{MayCut, MayLinkCopy, cut}
 use Rattle.snap_rule.specs.Position.{Faces}
 use Rattle.snap_rule.specs.Rule.{IsLive, TableOk}
 use Rattle.snap_rule.specs.State.{In, IsImage, State}
 use Rattle.snap_rule.specs.State.Change.{plain}
-use Rattle.snap_rule.specs.Tree.{Between, OnWay, Tree, find, pairs}
+use Rattle.snap_rule.specs.Tree.{Between, OnWay, Stands, Tree, find, pairs}
 
 -- a linked row whose birth is the epoch, and that has no unlinked mark, is live
 abbrev pub LiveKnown : Type 0
@@ -44,3 +44,8 @@ abbrev pub AbsentBelow : Type 0
 AbsentBelow = (s : State) (k n : ℕ) (d : Side) → TableOk s → Faces s n k d → (n ≡ 0) ⊎ OnWay s.tree k n
     → s.pending n d ≡ plain → s.link n d ≡ 0
     → find s.tree k ≡ None
+
+-- a shared row that a copy is about to replace was not replaced before: what was replaced is never in the tree again
+abbrev pub ReplacedOnce : Type 0
+ReplacedOnce = (s : State) → TableOk s → ((n : ℕ) → In n s.replaced → ¬ Stands n s.tree)
+    × ((parent : ℕ) (d : Side) (row copy : ℕ) → MayLinkCopy s parent d row copy → ¬ In row s.replaced)
