@@ -4,5 +4,6 @@ pub mod Ranges
 pub mod Neighbours
 pub mod Walking
 pub mod Seeking
-pub mod Levels
 pub mod Passing
+pub mod Levels
+pub mod Counts

@@ -30,7 +30,7 @@ past_it Left n from k l h = omega arith
 past_it Right n from k l h = omega arith
 
 -- the row lies where its tree does
-abbrev LiesIn : ℕ → ℕ → Option (ℕ × Option ℕ) → Type 0
+abbrev pub LiesIn : ℕ → ℕ → Option (ℕ × Option ℕ) → Type 0
 LiesIn low high None = Unit {0}
 LiesIn low high (Some p) = (low ≤ p.0) × (p.0 < high)
 
@@ -38,7 +38,7 @@ wider : (low low' high high' : ℕ) (o : Option (ℕ × Option ℕ)) → low' �
 wider low low' high high' None l h i = tt
 wider low low' high high' (Some p) l h i = (omega (arith, i.0), omega (arith, i.1))
 
-nearest_in : (side : Side) (from low high : ℕ) (t : Tree) → Between low high t → LiesIn low high (nearest_row side from t)
+pub nearest_in : (side : Side) (from low high : ℕ) (t : Tree) → Between low high t → LiesIn low high (nearest_row side from t)
 nearest_in side from low high empty h = tt
 nearest_in side from low high (node n a b) h = go (on (turn side from n.key) (nearest_row side from a) (nearest_row side from b)) (on_side (turn side from n.key) (nearest_in side from low n.key a h.2) (nearest_in side from (n.key + 1) high b h.3)) (reaches side from n.key)
   where

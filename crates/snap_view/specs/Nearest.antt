@@ -38,6 +38,11 @@ IsBehind Left key (Some k) = key ≡ k + 1
 IsBehind Right key None = key + 1 ≡ 2 ^ 64
 IsBehind Right key (Some k) = (k ≡ key + 1) × (k < 2 ^ 64)
 
+-- the next key behind a row's, or none where there is no row
+abbrev pub IsPast : Option (ℕ × Option ℕ) → Option ℕ → Type 0
+IsPast None next = next ≡ None
+IsPast (Some p) next = IsBehind Right p.0 next
+
 -- the way down a tree to the node nearest to `from` goes on from a node with this key on this side
 abbrev pub turn : Side → ℕ → ℕ → Side
 turn side from key = if reaches side from key then other side else side

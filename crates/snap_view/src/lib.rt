@@ -3,6 +3,7 @@
 #![tactic(auto)]
 
 mod ascend;
+mod counting;
 mod descend;
 mod nearest;
 mod ordered;

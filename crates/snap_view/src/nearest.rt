@@ -3,6 +3,7 @@ ghost use Rattle.std.specs.Prelude.{◌≡◌, ◌≤◌, ◌+◌, ◌-◌, ◌^
 ghost use Rattle.snap_model.specs.History.{after};
 ghost use Rattle.snap_model.specs.SortedMap.{at};
 ghost use Rattle.snap_rule.specs.Tree.{depth};
+ghost use Rattle.snap_stamp.specs.declared.side.Side.TheVariants.{Right};
 ghost use Rattle.snap_steps.specs.Clones.{image, IsCloneOf};
 ghost use Rattle.snap_view.specs.Nearest.{IsNearest, IsNearestPair, nearest_row, levels};
 
@@ -95,5 +96,18 @@ impl<'t> TableView<'t> {
     {
         let mut steps = Steps::<L>::new(blank);
         self.nearest_pair(side, from, &mut steps)
+    }
+
+    // The way down to the row with the least key from `from` on, where nobody counts the rows that are read.
+    pub(crate) fn way_from<L: Ledger>(&mut self, blank: Blank, from: Key) -> WayDown
+        requires name { blank.name ≡ L.name }
+        requires parts { blank.parts ≡ L.parts }
+        requires some { 0 < blank.parts }
+        ensures row { result.row ≡ nearest_row Right from (image self.old) }
+        ensures levels { result.levels ≡ min (levels Right from (image self.old)) (2 ^ 64 - 1) }
+        ensures view { self.new ≡ self.old }
+    {
+        let mut steps = Steps::<L>::new(blank);
+        self.way_down(Side::Right, from, &mut steps)
     }
 }
