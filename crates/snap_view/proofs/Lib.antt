@@ -1,3 +1,9 @@
 pub mod Within
+pub mod Nearing
 pub mod Ranges
+pub mod Neighbours
+pub mod Walking
 pub mod Seeking
+pub mod Passing
+pub mod Levels
+pub mod Counts

@@ -1,161 +1,123 @@
--- Pairs in a range of keys.
-use Rattle.std.proofs.Common.{◌≡◌, ℕ, ◌+◌, ◌<◌, ◌≤◌, Bool, true, false, cond, leb, [], ◌∷◌, ◌++◌, Option, Some, None, refl, sym, ap, ◌∙◌, append_assoc, arith, ◌&&◌}
-use Rattle.std.proofs.lemmas.Bool.{le-leb, lt-leb}
-use native.Mathlib.Decide.{dec_lt}
-use mathlib.Core.Logic.{dite}
-use Rattle.snap_model.specs.SortedMap.{Pairs, range}
+-- Pairs by rising keys, and those of them that pass a test.
+use Rattle.std.proofs.Common.{◌≡◌, ◌≢◌, ℕ, ◌+◌, ◌<◌, ◌≤◌, Bool, true, false, eqb, ltb, eq-eqb, ne_eqb, lt-ltb, le-ltb, inl, inr, [], ◌∷◌, ◌++◌, Option, Some, None, refl, sym, ap, ◌∙◌, arith, ◌&&◌}
+use Rattle.std.proofs.lemmas.Bool.{cases_order}
+use Rattle.std.proofs.lemmas.Bool.Decides.{nat_tests}
+use Rattle.std.specs.List.{filter}
+use Rattle.snap_model.specs.SortedMap.{Pairs, at}
 use Rattle.snap_rule.specs.Tree.{Tree, Between, entry, pairs}
 use Rattle.snap_rule.specs.Tree.Tree.{empty, node}
-use Rattle.snap_view.specs.Nearest.{IsNearest}
 
--- each key is at least from and below until
-abbrev pub Spans : ℕ → ℕ → Pairs → Type 0
-Spans from until [] = Unit {0}
-Spans from until (p ∷ m) = (from ≤ p.0) × (p.0 < until) × Spans from until m
+-- the keys rise from `from` on and stay below `until`
+abbrev pub Rise : ℕ → ℕ → Pairs → Type 0
+Rise from until [] = Unit {0}
+Rise from until (p ∷ m) = (from ≤ p.0) × (p.0 < until) × Rise (p.0 + 1) until m
 
-spans_weaker : (a b a' b' : ℕ) (m : Pairs) → a' ≤ a → b ≤ b' → Spans a b m → Spans a' b' m
-spans_weaker a b a' b' [] l h s = tt
-spans_weaker a b a' b' (p ∷ m) l h s = (omega (arith, s.0), omega (arith, s.1), spans_weaker a b a' b' m l h s.2)
+rise_wider : (a b c d : ℕ) (m : Pairs) → a ≤ b → c ≤ d → Rise b c m → Rise a d m
+rise_wider a b c d [] l h r = tt
+rise_wider a b c d (p ∷ m) l h r = (omega (arith, r.0), omega (arith, r.1), rise_wider (p.0 + 1) (p.0 + 1) c d m (omega arith) h r.2)
 
-spans-append : (a b : ℕ) (xs ys : Pairs) → Spans a b xs → Spans a b ys → Spans a b (xs ++ ys)
-spans-append a b [] ys s t = t
-spans-append a b (p ∷ xs) ys s t = (s.0, s.1, spans-append a b xs ys s.2 t)
+rise_append : (a b c : ℕ) (xs ys : Pairs) → a ≤ b → b ≤ c → Rise a b xs → Rise b c ys → Rise a c (xs ++ ys)
+rise_append a b c [] ys l h r s = rise_wider a b c c ys l (omega arith) s
+rise_append a b c (p ∷ xs) ys l h r s = (r.0, omega (arith, r.1), rise_append (p.0 + 1) b c xs ys (omega (arith, r.1)) h r.2 s)
 
-entry_spans : (k : ℕ) (o : Option ℕ) → Spans k (k + 1) (entry k o)
-entry_spans k None = tt
-entry_spans k (Some v) = (omega arith, omega arith, tt)
+rise_entry : (k : ℕ) (o : Option ℕ) → Rise k (k + 1) (entry k o)
+rise_entry k None = tt
+rise_entry k (Some v) = (omega arith, omega arith, tt)
 
-pub pairs_span : (low high : ℕ) (t : Tree) → Between low high t → Spans low high (pairs t)
-pairs_span low high empty h = tt
-pairs_span low high (node n a b) h =
-    spans-append low high (pairs a) (entry n.key n.value ++ pairs b) (spans_weaker low n.key low high (pairs a) (omega arith) (omega (arith, h.1)) (pairs_span low n.key a h.2))
-    (spans-append low high (entry n.key n.value) (pairs b) (spans_weaker n.key (n.key + 1) low high (entry n.key n.value) h.0 (omega (arith, h.1)) (entry_spans n.key n.value))
-    (spans_weaker (n.key + 1) high low high (pairs b) (omega (arith, h.0)) (omega arith) (pairs_span (n.key + 1) high b h.3)))
+pub pairs_rise : (low high : ℕ) (t : Tree) → Between low high t → Rise low high (pairs t)
+pairs_rise low high empty h = tt
+pairs_rise low high (node n a b) h = rise_append low n.key high (pairs a) (entry n.key n.value ++ pairs b) h.0 (omega (arith, h.1)) (pairs_rise low n.key a h.2)
+    (rise_append n.key (n.key + 1) high (entry n.key n.value) (pairs b) (omega arith) (omega (arith, h.1)) (rise_entry n.key n.value) (pairs_rise (n.key + 1) high b h.3))
 
-module _ (low high : ℕ) where
-  -- one pair more at the front
-  inside : (p : ℕ × ℕ) (m : Pairs) → low ≤ p.0 → p.0 ≤ high → range (p ∷ m) low high ≡ p ∷ range m low high
-  inside p m l h = let g : leb low p.0 ≡ true = le-leb low p.0 l in let e : leb p.0 high ≡ true = le-leb p.0 high h in rw g (rw e refl)
+own : (p : ℕ × ℕ) (m : Pairs) → at (p ∷ m) p.0 ≡ Some p.1
+own p m = rw (eq-eqb p.0 p.0 refl)
 
-  before : (p : ℕ × ℕ) (m : Pairs) → p.0 < low → range (p ∷ m) low high ≡ range m low high
-  before p m l = let g : leb low p.0 ≡ false = lt-leb low p.0 l in rw g refl
+away : (p : ℕ × ℕ) (m : Pairs) (k : ℕ) → p.0 ≢ k → at (p ∷ m) k ≡ at m k
+away p m k ne = let g : eqb p.0 k ≡ false = ne_eqb p.0 k ne in rw g
 
-  behind : (p : ℕ × ℕ) (m : Pairs) → high < p.0 → range (p ∷ m) low high ≡ range m low high
-  behind p m h = let e : leb p.0 high ≡ false = lt-leb p.0 high h in go (leb low p.0) (leb p.0 high) e
+both : (a b : Bool) → (a && b) ≡ true → (a ≡ true) × (b ≡ true)
+both true b e = (refl, e)
+both false b e = absurd (cc e)
+
+below_only : (a b : ℕ) → ltb a b ≡ true → a < b
+below_only a b e = grind (arith, nat_tests)
+
+-- no pair passes where no key that passes has a value, and each where all keys do
+pub none_pass : (q : ℕ → Bool) (from until : ℕ) (m : Pairs) → Rise from until m → ((k : ℕ) → k < until → q k ≡ true → at m k ≡ None) → filter (λ p. q p.0) m ≡ []
+none_pass q from until [] r f = refl
+none_pass q from until (p ∷ m) r f = go (q p.0) refl (λ e. none_pass q (p.0 + 1) until m r.2 (λ k l h. sym (away p m k (λ s. let z : true ≡ false = sym h ∙ ap q (sym s) ∙ e in cc z)) ∙ f k l h))
+  where
+    go : (b : Bool) → q p.0 ≡ b → (q p.0 ≡ false → filter (λ p. q p.0) m ≡ []) → filter (λ p. q p.0) (p ∷ m) ≡ []
+    go true e rest = absurd (let z : Some p.1 ≡ None = sym (own p m) ∙ f p.0 r.1 e in cc z)
+    go false e rest = rw e (rest e)
+
+-- nor where no key passes
+pub no_key_passes : (q : ℕ → Bool) (m : Pairs) → ((k : ℕ) → q k ≡ false) → filter (λ p. q p.0) m ≡ []
+no_key_passes q [] f = refl
+no_key_passes q (p ∷ m) f = let e : q p.0 ≡ false = f p.0 in rw e (no_key_passes q m f)
+
+pub all_pass : (q : ℕ → Bool) (from until : ℕ) (m : Pairs) → Rise from until m → ((k : ℕ) → from ≤ k → k < until → q k ≡ true) → filter (λ p. q p.0) m ≡ m
+all_pass q from until [] r f = refl
+all_pass q from until (p ∷ m) r f = let e : q p.0 ≡ true = f p.0 r.0 r.1 in rw e (ap (λ (l : Pairs). p ∷ l) (all_pass q (p.0 + 1) until m r.2 (λ k l h. f k (omega (arith, r.0)) h)))
+
+-- around a key that passes: the pairs before it, its own, and those behind it
+module _ (q : ℕ → Bool) (k : ℕ) (passes : q k ≡ true) (until : ℕ) where
+  abbrev pub before : Pairs → Pairs
+  before m = filter (λ p. q p.0 && ltb p.0 k) m
+
+  abbrev pub behind : Pairs → Pairs
+  behind m = filter (λ p. q p.0 && ltb k p.0) m
+
+  -- all keys are greater
+  none_before : (from : ℕ) (m : Pairs) → k < from → Rise from until m → (before m ≡ []) × (at m k ≡ None) × (behind m ≡ filter (λ p. q p.0) m)
+  none_before from [] l r = (refl, refl, refl)
+  none_before from (p ∷ m) l r =
+      let rest = none_before (p.0 + 1) m (omega (arith, r.0)) r.2 in
+      let g : ltb p.0 k ≡ false = le-ltb p.0 k (omega (arith, r.0)) in
+      let h : ltb k p.0 ≡ true = lt-ltb k p.0 (omega (arith, r.0)) in
+      (go (q p.0) refl g rest.0, away p m k (λ e. omega (arith, e, r.0)) ∙ rest.1, went (q p.0) refl h rest.2)
     where
-      go : (x y : Bool) → y ≡ false → cond (x && y) (p ∷ range m low high) (range m low high) ≡ range m low high
-      go true y e = rw e refl
-      go false y e = refl
+      go : (b : Bool) → q p.0 ≡ b → ltb p.0 k ≡ false → before m ≡ [] → before (p ∷ m) ≡ []
+      go true e g z = rw (e, g) z
+      go false e g z = rw e z
 
-  pub range-append : (xs ys : Pairs) → range (xs ++ ys) low high ≡ range xs low high ++ range ys low high
-  range-append [] ys = refl
-  range-append (p ∷ xs) ys = dite (dec_lt p.0 low)
-      (λ l. before p (xs ++ ys) l ∙ range-append xs ys ∙ ap (λ (m : Pairs). m ++ range ys low high) (sym (before p xs l)))
-      (λ nl. dite (dec_lt high p.0)
-      (λ h. behind p (xs ++ ys) h ∙ range-append xs ys ∙ ap (λ (m : Pairs). m ++ range ys low high) (sym (behind p xs h)))
-      (λ nh. inside p (xs ++ ys) (omega arith) (omega arith) ∙ ap (λ (m : Pairs). p ∷ m) (range-append xs ys) ∙ ap (λ (m : Pairs). m ++ range ys low high) (sym (inside p xs (omega arith) (omega arith)))))
+      went : (b : Bool) → q p.0 ≡ b → ltb k p.0 ≡ true → behind m ≡ filter (λ p. q p.0) m → behind (p ∷ m) ≡ filter (λ p. q p.0) (p ∷ m)
+      went true e h z = rw (e, h) (ap (λ (l : Pairs). p ∷ l) z)
+      went false e h z = rw e z
 
-  -- all keys are below, above or within the range
-  pub none_below : (a b : ℕ) (m : Pairs) → Spans a b m → b ≤ low → range m low high ≡ []
-  none_below a b [] s l = refl
-  none_below a b (p ∷ m) s l = before p m (omega (arith, s.1)) ∙ none_below a b m s.2 l
+  split : (from : ℕ) (m : Pairs) → Rise from until m → filter (λ p. q p.0) m ≡ before m ++ (entry k (at m k) ++ behind m)
+  split from [] r = refl
+  split from (p ∷ m) r = elim (cases_order p.0 k) [
+    | inl e ↦ same e
+    | inr (inl l) ↦ less l (split (p.0 + 1) m r.2) (q p.0) refl
+    | inr (inr l) ↦ (let none = none_before p.0 (p ∷ m) l (omega arith, r.1, r.2) in sym ((λ i. none.0 i ++ (entry k (none.1 i) ++ none.2 i))))
+  ]
+    where
+      same : p.0 ≡ k → filter (λ p. q p.0) (p ∷ m) ≡ before (p ∷ m) ++ (entry k (at (p ∷ m) k) ++ behind (p ∷ m))
+      same e =
+          let none = none_before (p.0 + 1) m (omega (arith, e)) r.2 in
+          let t : q p.0 ≡ true = ap q e ∙ passes in
+          let g : ltb p.0 k ≡ false = le-ltb p.0 k (omega (arith, e)) in
+          let h : ltb k p.0 ≡ false = le-ltb k p.0 (omega (arith, e)) in
+          let mine : at (p ∷ m) k ≡ Some p.1 = ap (at (p ∷ m)) (sym e) ∙ own p m in
+          let key : p ≡ (k, p.1) = (λ i. (e i, p.1)) in
+          rw (mine, t, g, h, none.0, none.2) (ap (λ (x : ℕ × ℕ). x ∷ filter (λ p. q p.0) m) key)
 
-  pub none_above : (a b : ℕ) (m : Pairs) → Spans a b m → high < a → range m low high ≡ []
-  none_above a b [] s l = refl
-  none_above a b (p ∷ m) s l = behind p m (omega (arith, s.0)) ∙ none_above a b m s.2 l
+      less : p.0 < k → filter (λ p. q p.0) m ≡ before m ++ (entry k (at m k) ++ behind m) → (b : Bool) → q p.0 ≡ b → filter (λ p. q p.0) (p ∷ m) ≡ before (p ∷ m) ++ (entry k (at (p ∷ m) k) ++ behind (p ∷ m))
+      less l rest true t =
+          let g : ltb p.0 k ≡ true = lt-ltb p.0 k l in let h : ltb k p.0 ≡ false = le-ltb k p.0 (omega arith) in
+          rw (away p m k (λ e. omega (arith, e)), t, g, h) (ap (λ (x : Pairs). p ∷ x) rest)
+      less l rest false t = rw (away p m k (λ e. omega (arith, e)), t) rest
 
-  pub all_within : (a b : ℕ) (m : Pairs) → Spans a b m → low ≤ a → b ≤ high + 1 → range m low high ≡ m
-  all_within a b [] s l h = refl
-  all_within a b (p ∷ m) s l h = inside p m (omega (arith, s.0)) (omega (arith, s.1)) ∙ ap (λ (x : Pairs). p ∷ x) (all_within a b m s.2 l h)
+  -- nothing that passes stands before it, or behind it
+  pub first_passes : (from : ℕ) (m : Pairs) → Rise from until m → ((j : ℕ) → q j ≡ true → j < k → at m j ≡ None) → filter (λ p. q p.0) m ≡ entry k (at m k) ++ behind m
+  first_passes from m r f = split from m r ∙ ap (λ (l : Pairs). l ++ (entry k (at m k) ++ behind m))
+      (none_pass (λ j. q j && ltb j k) from until m r (λ j l e. let h = both (q j) (ltb j k) e in f j h.0 (below_only j k h.1)))
 
-  pub none_between : (m : Pairs) → high < low → range m low high ≡ []
-  none_between [] l = refl
-  none_between (p ∷ m) l = dite (dec_lt p.0 low) (λ b. before p m b ∙ none_between m l) (λ nb. behind p m (omega arith) ∙ none_between m l)
-
--- a lower bound below all keys may be another
-pub same_from : (low low' high a b : ℕ) (m : Pairs) → Spans a b m → low ≤ a → low' ≤ a → range m low high ≡ range m low' high
-same_from low low' high a b [] s l l' = refl
-same_from low low' high a b (p ∷ m) s l l' = dite (dec_lt high p.0)
-    (λ h. behind low high p m h ∙ same_from low low' high a b m s.2 l l' ∙ sym (behind low' high p m h))
-    (λ nh. inside low high p m (omega (arith, s.0)) (omega arith) ∙ ap (λ (x : Pairs). p ∷ x) (same_from low low' high a b m s.2 l l') ∙ sym (inside low' high p m (omega (arith, s.0)) (omega arith)))
-
--- the first row of a tree with a key from low on
-abbrev pub or_this : Option (ℕ × Option ℕ) → ℕ × Option ℕ → Option (ℕ × Option ℕ)
-or_this None p = Some p
-or_this (Some q) p = Some q
-
-abbrev pub first_from : Tree → ℕ → Option (ℕ × Option ℕ)
-first_from empty low = None
-first_from (node n a b) low = cond (leb low n.key) (or_this (first_from a low) (n.key, n.value)) (first_from b low)
-
-abbrev pub or_best : Option (ℕ × Option ℕ) → Option (ℕ × Option ℕ) → Option (ℕ × Option ℕ)
-or_best None best = best
-or_best (Some q) best = Some q
-
--- it lies where it should
-abbrev IsFrom : ℕ → ℕ → ℕ → Option (ℕ × Option ℕ) → Type 0
-IsFrom from until low None = Unit {0}
-IsFrom from until low (Some p) = (low ≤ p.0) × (from ≤ p.0) × (p.0 < until)
-
-first_is : (from until low : ℕ) (t : Tree) → Between from until t → IsFrom from until low (first_from t low)
-first_is from until low empty h = tt
-first_is from until low (node n a b) h = dite (dec_lt n.key low)
-    (λ l. let g : leb low n.key ≡ false = lt-leb low n.key l in rw g (right (first_from b low) (first_is (n.key + 1) until low b h.3)))
-    (λ nl. let g : leb low n.key ≡ true = le-leb low n.key (omega arith) in rw g (left (omega arith) (first_from a low) (first_is from n.key low a h.2)))
-  where
-    right : (o : Option (ℕ × Option ℕ)) → IsFrom (n.key + 1) until low o → IsFrom from until low o
-    right None i = tt
-    right (Some p) i = (i.0, omega (arith, i.1, h.0), i.2)
-
-    left : low ≤ n.key → (o : Option (ℕ × Option ℕ)) → IsFrom from n.key low o → IsFrom from until low (or_this o (n.key, n.value))
-    left l None i = (l, h.0, h.1)
-    left l (Some p) i = (i.0, i.1, omega (arith, i.2, h.1))
-
--- by it the map goes on
-pub nearest_is : (from until low : ℕ) (t : Tree) → Between from until t → IsNearest (pairs t) low (first_from t low)
-nearest_is from until low empty h = λ high. refl
-nearest_is from until low (node n a b) h = dite (dec_lt n.key low)
-    (λ l. let g : leb low n.key ≡ false = lt-leb low n.key l in rw g (right l (first_from b low) (first_is (n.key + 1) until low b h.3) (nearest_is (n.key + 1) until low b h.3)))
-    (λ nl. let g : leb low n.key ≡ true = le-leb low n.key (omega arith) in rw g (left (omega arith) (first_from a low) (first_is from n.key low a h.2) (nearest_is from n.key low a h.2)))
-  where
-    e : Pairs
-    e = entry n.key n.value
-
-    span_a : Spans from n.key (pairs a)
-    span_a = pairs_span from n.key a h.2
-
-    span_e : Spans n.key (n.key + 1) (entry n.key n.value)
-    span_e = entry_spans n.key n.value
-
-    span_b : Spans (n.key + 1) until (pairs b)
-    span_b = pairs_span (n.key + 1) until b h.3
-
-    three : (x y : ℕ) → range (pairs (node n a b)) x y ≡ range (pairs a) x y ++ (range (entry n.key n.value) x y ++ range (pairs b) x y)
-    three x y = range-append x y (pairs a) (entry n.key n.value ++ pairs b) ∙ ap (λ (m : Pairs). range (pairs a) x y ++ m) (range-append x y (entry n.key n.value) (pairs b))
-
-    -- from a key past the top on there is the right subtree alone
-    past_top : (x y : ℕ) → n.key < x → range (pairs (node n a b)) x y ≡ range (pairs b) x y
-    past_top x y l = three x y ∙ (λ i. none_below x y from n.key (pairs a) span_a (omega (arith, l)) i ++ (none_below x y n.key (n.key + 1) (entry n.key n.value) span_e (omega (arith, l)) i ++ range (pairs b) x y))
-
-    right : n.key < low → (o : Option (ℕ × Option ℕ)) → IsFrom (n.key + 1) until low o → IsNearest (pairs b) low o → IsNearest (pairs (node n a b)) low o
-    right l None i near = λ y. past_top low y l ∙ near y
-    right l (Some p) i near = record {
-      from = near.from;
-      past = λ y under. past_top low y l ∙ near.past y under;
-      goes_on = λ y upto. past_top low y l ∙ near.goes_on y upto ∙ ap (λ (m : Pairs). entry p.0 p.1 ++ m) (sym (past_top (p.0 + 1) y (omega (arith, i.1))));
-    }
-
-    left : low ≤ n.key → (o : Option (ℕ × Option ℕ)) → IsFrom from n.key low o → IsNearest (pairs a) low o → IsNearest (pairs (node n a b)) low (or_this o (n.key, n.value))
-    left l None i near = record {
-      from = l;
-      past = λ y under. three low y ∙ (λ k. near y k ++ (none_above low y n.key (n.key + 1) (entry n.key n.value) span_e under k ++ none_above low y (n.key + 1) until (pairs b) span_b (omega (arith, under)) k));
-      goes_on = λ y upto. three low y ∙ (λ k. near y k ++ (all_within low y n.key (n.key + 1) (entry n.key n.value) span_e l (omega (arith, upto)) k ++ same_from low (n.key + 1) y (n.key + 1) until (pairs b) span_b (omega (arith, l)) (omega arith) k))
-          ∙ ap (λ (m : Pairs). entry n.key n.value ++ m) (sym (past_top (n.key + 1) y (omega arith)));
-    }
-    left l (Some p) i near = record {
-      from = near.from;
-      past = λ y under. three low y ∙ (λ k. near.past y under k ++ (none_above low y n.key (n.key + 1) (entry n.key n.value) span_e (omega (arith, under, i.2)) k ++ none_above low y (n.key + 1) until (pairs b) span_b (omega (arith, under, i.2)) k));
-      goes_on = λ y upto. three low y
-          ∙ (λ k. near.goes_on y upto k ++ (same_from low (p.0 + 1) y n.key (n.key + 1) (entry n.key n.value) span_e l (omega (arith, i.2)) k ++ same_from low (p.0 + 1) y (n.key + 1) until (pairs b) span_b (omega (arith, l)) (omega (arith, i.2)) k))
-          ∙ append_assoc (entry p.0 p.1) (range (pairs a) (p.0 + 1) y) (range (entry n.key n.value) (p.0 + 1) y ++ range (pairs b) (p.0 + 1) y) ∙ ap (λ (m : Pairs). entry p.0 p.1 ++ m) (sym (three (p.0 + 1) y));
-    }
+  pub last_passes : (from : ℕ) (m : Pairs) → Rise from until m → ((j : ℕ) → q j ≡ true → k < j → at m j ≡ None) → filter (λ p. q p.0) m ≡ before m ++ entry k (at m k)
+  last_passes from m r f = split from m r ∙ ap (λ (l : Pairs). before m ++ l) (ap (λ (l : Pairs). entry k (at m k) ++ l)
+      (none_pass (λ j. q j && ltb k j) from until m r (λ j l e. let h = both (q j) (ltb k j) e in f j h.0 (below_only k j h.1))) ∙ ended (at m k))
+    where
+      ended : (o : Option ℕ) → entry k o ++ [] ≡ entry k o
+      ended None = refl
+      ended (Some v) = refl

@@ -1,21 +1,25 @@
 -- The way down a clone's tree.
-use Rattle.std.proofs.Common.{◌≡◌, ◌≢◌, ℕ, ◌+◌, ◌<◌, ◌≤◌, ◌^◌, Bool, true, false, cond, leb, Option, Some, None, refl, sym, ap, ◌∙◌, subst, arith}
+use Rattle.std.proofs.Common.{◌≡◌, ◌≢◌, ℕ, ◌+◌, ◌<◌, ◌≤◌, ◌^◌, min, Bool, true, false, Option, Some, None, refl, sym, ap, ◌∙◌, subst, arith}
+use Rattle.std.specs.Prelude.{if◌then◌else◌}
 use Rattle.snap_model.specs.History.{after}
 use Rattle.snap_model.specs.SortedMap.{Pairs, at}
 use Rattle.snap_rule.specs.Tree.{Tree, Node, Between, depth, find, root}
 use Rattle.snap_rule.specs.Tree.Tree.{node}
 use Rattle.snap_rule.proofs.Pairs.{find_at}
-use Rattle.snap_rule.proofs.Trees.{find_here}
+use Rattle.snap_rule.proofs.Trees.{child, find_here}
+use Rattle.snap_stamp.specs.declared.side.Side.{Side}
+use Rattle.snap_stamp.specs.declared.side.Side.TheVariants.{Left, Right}
 use Rattle.snap_steps.specs.Clones.{Cloned, image, IsCloneOf, IsWithin}
 use Rattle.snap_steps.specs.declared.clones.RowCopy.{RowCopy}
-use Rattle.snap_view.specs.Nearest.{IsNearest}
+use Rattle.snap_view.specs.Nearest.{reaches, IsNearest, turn, on, or_else, if_reached, nearest_row, levels}
 use Rattle.snap_view.specs.Tops.{HasTop, HasTree, IsTopOf, rows_read}
-use Rattle.snap_view.proofs.Ranges.{or_this, or_best, first_from, nearest_is}
-use Rattle.snap_view.proofs.Within.{within_itself, levels_below, levels_are, side_of, side_within, side_root, side_depth, side_find}
+use Rattle.snap_view.specs.declared.way.WayDown.{WayDown}
+use Rattle.snap_view.proofs.Nearing.{nearest_is, same_nearest}
+use Rattle.snap_view.proofs.Within.{within_itself, levels_below, levels_are, next_tree, next_within, next_root, next_depth, next_find}
 
--- the row below a copy on the side of a key
-abbrev pub side_row : RowCopy → ℕ → ℕ
-side_row copy k = cond (leb k copy.key) copy.left copy.right
+-- the row below a copy on the way to the row nearest to `from`
+abbrev pub next_row : Side → ℕ → RowCopy → ℕ
+next_row side from copy = on (turn side from copy.key) copy.left copy.right
 
 -- the top of each tree that stands at this row
 abbrev pub TopsAt : Tree → ℕ → Option RowCopy → Type 0
@@ -29,52 +33,65 @@ pub record Seeks (t : Tree) (key : ℕ) (here : Option RowCopy) (before now : �
   pub same : find tree key ≡ find t key
   pub cost : now + depth tree ≤ before + depth t + rows_read here
 
--- the first row from low on stands in a tree of which this is the top, or is the best so far
-pub record Nears (t : Tree) (low : ℕ) (here : Option RowCopy) (best : Option (ℕ × Option ℕ)) : Type 0 where
+-- the way to the row nearest to `from` goes on in a tree of which this is the top, and has passed so many rows
+pub record Descends (t : Tree) (side : Side) (from : ℕ) (here : Option RowCopy) (way : WayDown) (before now : ℕ) : Type 0 where
   pub tree : Tree
   pub within : IsWithin tree t
   pub top : IsTopOf tree here
-  pub same : first_from t low ≡ or_best (first_from tree low) best
+  pub same : nearest_row side from t ≡ or_else (nearest_row side from tree) way.row
+  pub passed : ℕ
+  pub all : passed + levels side from tree ≡ levels side from t
+  pub counted : way.levels ≡ min passed 18446744073709551615
+  pub cost : now ≡ before + passed + rows_read here
 
 pub seeks_from : (t : Tree) (key : ℕ) (here : Option RowCopy) (before now : ℕ) → IsTopOf t here → now ≡ before + rows_read here → Seeks t key here before now
 seeks_from t key here before now top read = record { tree = t; within = within_itself t; top = top; same = refl; cost = omega (arith, read) }
 
-pub nears_from : (t : Tree) (low : ℕ) (here : Option RowCopy) → IsTopOf t here → Nears t low here None
-nears_from t low here top = record { tree = t; within = within_itself t; top = top; same = go (first_from t low) }
+pub descends_from : (t : Tree) (side : Side) (from : ℕ) (here : Option RowCopy) (before now : ℕ) → IsTopOf t here → now ≡ before + rows_read here → Descends t side from here (record { row = None; levels = 0 }) before now
+descends_from t side from here before now top read = record {
+  tree = t;
+  within = within_itself t;
+  top = top;
+  same = go (nearest_row side from t);
+  passed = 0;
+  all = omega arith;
+  counted = omega arith;
+  cost = omega (arith, read);
+}
   where
-    go : (o : Option (ℕ × Option ℕ)) → o ≡ or_best o None
+    go : (o : Option (ℕ × Option ℕ)) → o ≡ or_else o None
     go None = refl
     go (Some p) = refl
 
 -- below a tree with this top
-module _ (t u : Tree) (within : IsWithin u t) (copy : RowCopy) (top : HasTop u copy) (k : ℕ) where
-  n : Node
-  n = top.top
-
+module _ (t u : Tree) (within : IsWithin u t) (copy : RowCopy) (top : HasTop u copy) (side : Side) (from : ℕ) where
   node_within : IsWithin (node top.top top.left top.right) t
   node_within = subst (λ (z : Tree). IsWithin z t) top.is within
 
-  pub next_tree : Tree
-  next_tree = side_of top.top top.left top.right k
+  pub below_within : IsWithin (next_tree side from top.top top.left top.right) t
+  below_within = next_within t top.top top.left top.right side from node_within
 
-  pub has_next : HasTree t (side_row copy k)
-  has_next = record { tree = side_of top.top top.left top.right k; within = side_within t top.top top.left top.right k node_within; at = side_root top.top top.left top.right copy k top.copied }
+  pub below_root : root (next_tree side from top.top top.left top.right) ≡ next_row side from copy
+  below_root = next_root top.top top.left top.right copy side from top.copied
 
-  pub next_fewer : (low high : ℕ) (next : Option RowCopy) → Between low high t → TopsAt t (side_row copy k) next → levels_below t next < levels_below t (Some copy)
+  pub has_next : HasTree t (next_row side from copy)
+  has_next = record { tree = next_tree side from top.top top.left top.right; within = below_within; at = below_root }
+
+  pub next_fewer : (low high : ℕ) (next : Option RowCopy) → Between low high t → TopsAt t (next_row side from copy) next → levels_below t next < levels_below t (Some copy)
   next_fewer low high next h tops =
-      let side : Tree = side_of top.top top.left top.right k in let at = side_within t top.top top.left top.right k node_within in
-      omega (arith, levels_are low high t u (Some copy) h within top, ap depth top.is, levels_are low high t side next h at (tops side at (side_root top.top top.left top.right copy k top.copied)), side_depth top.top top.left top.right k)
+      let below : Tree = next_tree side from top.top top.left top.right in
+      omega (arith, levels_are low high t u (Some copy) h within top, ap depth top.is, levels_are low high t below next h below_within (tops below below_within below_root), next_depth top.top top.left top.right side from)
 
-pub seeks_on : (t : Tree) (key : ℕ) (copy : RowCopy) (before now : ℕ) (next : Option RowCopy) (after_it : ℕ) → Seeks t key (Some copy) before now → copy.key ≢ key → TopsAt t (side_row copy key) next → after_it ≡ now + rows_read next → Seeks t key next before after_it
+pub seeks_on : (t : Tree) (key : ℕ) (copy : RowCopy) (before now : ℕ) (next : Option RowCopy) (after_it : ℕ) → Seeks t key (Some copy) before now → copy.key ≢ key → TopsAt t (next_row Right key copy) next → after_it ≡ now + rows_read next → Seeks t key next before after_it
 seeks_on t key copy before now next after_it s ne tops read =
-    let h = s.top in let n : Node = h.top in let side : Tree = side_of n h.left h.right key in
-    let within : IsWithin (node n h.left h.right) t = subst (λ (z : Tree). IsWithin z t) h.is s.within in let at = side_within t n h.left h.right key within in
+    let h = s.top in let n : Node = h.top in let below : Tree = next_tree Right key n h.left h.right in
+    let at = below_within t s.tree s.within copy h Right key in
     let other : n.key ≢ key = λ e. ne (h.copied.key ∙ e) in record {
-      tree = side;
+      tree = below;
       within = at;
-      top = tops side at (side_root n h.left h.right copy key h.copied);
-      same = sym (side_find n h.left h.right key other) ∙ sym (ap (λ (z : Tree). find z key) h.is) ∙ s.same;
-      cost = omega (arith, s.cost, ap depth h.is, side_depth n h.left h.right key, read);
+      top = tops below at (below_root t s.tree s.within copy h Right key);
+      same = sym (next_find n h.left h.right key other) ∙ sym (ap (λ (z : Tree). find z key) h.is) ∙ s.same;
+      cost = omega (arith, s.cost, ap depth h.is, next_depth n h.left h.right Right key, read);
     }
 
 pub seeks_found : (t : Tree) (key : ℕ) (copy : RowCopy) (before now : ℕ) → Seeks t key (Some copy) before now → copy.key ≡ key → (copy.value ≡ find t key) × (now ≤ before + depth t)
@@ -84,30 +101,54 @@ seeks_found t key copy before now s e =
 pub seeks_none : (t : Tree) (key before now : ℕ) → Seeks t key None before now → (None ≡ find t key) × (now ≤ before + depth t)
 seeks_none t key before now s = (ap (λ (z : Tree). find z key) (sym s.top) ∙ s.same, omega (arith, s.cost))
 
-pub nears_on : (t : Tree) (low : ℕ) (copy : RowCopy) (best best' : Option (ℕ × Option ℕ)) (next : Option RowCopy) → Nears t low (Some copy) best → best' ≡ cond (leb low copy.key) (Some (copy.key, copy.value)) best → TopsAt t (side_row copy low) next → Nears t low next best'
-nears_on t low copy best best' next s is tops =
-    let h = s.top in let n : Node = h.top in let side : Tree = side_of n h.left h.right low in
-    let within : IsWithin (node n h.left h.right) t = subst (λ (z : Tree). IsWithin z t) h.is s.within in let at = side_within t n h.left h.right low within in record {
-      tree = side;
+pub descends_on : (t : Tree) (side : Side) (from : ℕ) (copy : RowCopy) (way way' : WayDown) (before now : ℕ) (next : Option RowCopy) (after_it : ℕ) → Descends t side from (Some copy) way before now
+    → way'.row ≡ (if reaches side from copy.key then Some (copy.key, copy.value) else way.row) → way'.levels ≡ min (way.levels + 1) 18446744073709551615
+    → TopsAt t (next_row side from copy) next → after_it ≡ now + rows_read next → Descends t side from next way' before after_it
+descends_on t side from copy way way' before now next after_it s row counts tops read =
+    let h = s.top in let n : Node = h.top in let below : Tree = next_tree side from n h.left h.right in
+    let at = below_within t s.tree s.within copy h side from in record {
+      tree = below;
       within = at;
-      top = tops side at (side_root n h.left h.right copy low h.copied);
-      same = s.same ∙ ap (λ (z : Tree). or_best (first_from z low) best) h.is ∙ go h.left h.right (n.key, n.value) (leb low n.key) ∙ ap (or_best (first_from side low)) (sym (is ∙ (λ i. cond (leb low (h.copied.key i)) (Some (h.copied.key i, h.copied.value i)) best)));
+      top = tops below at (below_root t s.tree s.within copy h side from);
+      same = s.same ∙ ap (λ (z : Tree). or_else (nearest_row side from z) way.row) h.is
+          ∙ ap (λ (o : Option (ℕ × Option ℕ)). or_else (or_else o (if_reached side from (n.key, n.value))) way.row) (sym (rows_on (turn side from n.key) h.left h.right))
+          ∙ or_assoc (nearest_row side from below) (if_reached side from (n.key, n.value)) way.row ∙ ap (or_else (nearest_row side from below)) (sym (row ∙ better h.copied.key h.copied.value));
+      passed = s.passed + 1;
+      all = omega (arith, s.all, ap (levels side from) h.is, levels_on (turn side from n.key) h.left h.right);
+      counted = omega (arith, s.counted, counts);
+      cost = omega (arith, s.cost, read);
     }
   where
-    go : (a b : Tree) (p : ℕ × Option ℕ) (c : Bool) → or_best (cond c (or_this (first_from a low) p) (first_from b low)) best ≡ or_best (first_from (cond c a b) low) (cond c (Some p) best)
-    go a b p true = one (first_from a low)
-      where
-        one : (o : Option (ℕ × Option ℕ)) → or_best (or_this o p) best ≡ or_best o (Some p)
-        one None = refl
-        one (Some q) = refl
-    go a b p false = refl
+    rows_on : (d : Side) (a b : Tree) → nearest_row side from (child d a b) ≡ on d (nearest_row side from a) (nearest_row side from b)
+    rows_on Left a b = refl
+    rows_on Right a b = refl
 
-pub nears_end : (t : Tree) (low : ℕ) (best : Option (ℕ × Option ℕ)) → Nears t low None best → first_from t low ≡ best
-nears_end t low best s = s.same ∙ ap (λ (z : Tree). or_best (first_from z low) best) s.top
+    levels_on : (d : Side) (a b : Tree) → levels side from (child d a b) ≡ on d (levels side from a) (levels side from b)
+    levels_on Left a b = refl
+    levels_on Right a b = refl
+
+    or_assoc : (x y z : Option (ℕ × Option ℕ)) → or_else (or_else x y) z ≡ or_else x (or_else y z)
+    or_assoc None y z = refl
+    or_assoc (Some p) y z = refl
+
+    better : {k : ℕ} {v : Option ℕ} → copy.key ≡ k → copy.value ≡ v → (if reaches side from copy.key then Some (copy.key, copy.value) else way.row) ≡ or_else (if_reached side from (k, v)) way.row
+    better {k} {v} e f = (λ i. if reaches side from (e i) then Some (e i, f i) else way.row) ∙ go (reaches side from k)
+      where
+        go : (b : Bool) → (if b then Some (k, v) else way.row) ≡ or_else (if b then Some (k, v) else None) way.row
+        go true = refl
+        go false = refl
+
+pub descends_end : (t : Tree) (side : Side) (from : ℕ) (way : WayDown) (before now : ℕ) → Descends t side from None way before now → record { row : way.row ≡ nearest_row side from t; counts : way.levels ≡ min (levels side from t) 18446744073709551615; cost : now ≡ before + levels side from t }
+descends_end t side from way before now s =
+    let ends : levels side from s.tree ≡ 0 = ap (levels side from) s.top in record {
+      row = sym (s.same ∙ ap (λ (z : Tree). or_else (nearest_row side from z) way.row) s.top);
+      counts = omega (arith, s.all, s.counted, ends);
+      cost = omega (arith, s.all, s.cost, ends);
+    }
 
 -- what the tree tells of the map
 pub value_told : (c : Cloned) (key : ℕ) → IsCloneOf c.base (image c) → find (image c) key ≡ at (after c.base) key
 value_told c key h = find_at 0 (2 ^ 64) key (image c) h.ordered ∙ ap (λ (m : Pairs). at m key) h.tells
 
-pub nearest_told : (c : Cloned) (low : ℕ) (best : Option (ℕ × Option ℕ)) → IsCloneOf c.base (image c) → first_from (image c) low ≡ best → IsNearest (after c.base) low best
-nearest_told c low best h e = subst (IsNearest (after c.base) low) e (subst (λ (m : Pairs). IsNearest m low (first_from (image c) low)) h.tells (nearest_is 0 (2 ^ 64) low (image c) h.ordered))
+pub nearest_told : (c : Cloned) (side : Side) (from : ℕ) (row : Option (ℕ × Option ℕ)) → IsCloneOf c.base (image c) → row ≡ nearest_row side from (image c) → IsNearest (at (after c.base)) side from row
+nearest_told c side from row h e = subst (IsNearest (at (after c.base)) side from) (sym e) (same_nearest (find (image c)) (at (after c.base)) side from (nearest_row side from (image c)) (λ k. value_told c k h) (nearest_is side from 0 (2 ^ 64) (image c) h.ordered))

@@ -1,12 +1,15 @@
 -- Trees within a tree.
-use Rattle.std.proofs.Common.{◌≡◌, ◌≢◌, inl, inr, ℕ, ◌+◌, ◌<◌, ◌≤◌, Bool, true, false, cond, eqb, ltb, leb, eq-eqb, ne_eqb, lt-ltb, le-ltb, Option, Some, None, refl, sym, ap, ◌∙◌, subst, arith, max}
+use Rattle.std.proofs.Common.{◌≡◌, ◌≢◌, inl, inr, ℕ, ◌+◌, ◌<◌, ◌≤◌, true, false, cond, eqb, ltb, leb, eq-eqb, ne_eqb, lt-ltb, le-ltb, Option, Some, None, refl, sym, ap, ◌∙◌, subst, arith, max}
 use Rattle.std.proofs.lemmas.Bool.{cases_order, le-leb, lt-leb}
 use Rattle.snap_rule.specs.Tree.{Tree, Node, Between, EachRow, Stands, depth, find, root}
 use Rattle.snap_rule.specs.Tree.Tree.{empty, node}
-use Rattle.snap_rule.proofs.Trees.{find_left, find_right}
+use Rattle.snap_rule.proofs.Trees.{child, find_left, find_right}
+use Rattle.snap_stamp.specs.declared.side.Side.{Side}
+use Rattle.snap_stamp.specs.declared.side.Side.TheVariants.{Left, Right}
 use Rattle.snap_steps.specs.Clones.{ArePlaced, IsWithin}
 use Rattle.snap_steps.specs.Copies.{IsCopyOf, CopiesRow}
 use Rattle.snap_steps.specs.declared.clones.RowCopy.{RowCopy}
+use Rattle.snap_view.specs.Nearest.{turn, on}
 use Rattle.snap_view.specs.Tops.{HasTree, IsTopOf}
 
 pub within_itself : (t : Tree) → IsWithin t t
@@ -67,33 +70,34 @@ levels_are low high t u (Some copy) h w top =
     let within : IsWithin (node top.top top.left top.right) t = subst (λ (z : Tree). IsWithin z t) top.is w in
     ap (λ (k : ℕ). depth (under t k)) top.copied.key ∙ ap depth (under_is low high t top.top top.left top.right h within ∙ sym top.is)
 
--- the subtree on the side of a key, whose row is the copy's link
-abbrev pub side_of : Node → Tree → Tree → ℕ → Tree
-side_of n a b k = cond (leb k n.key) a b
+-- the subtree below a node on the way to the row nearest to `from`, whose row is the copy's link
+abbrev pub next_tree : Side → ℕ → Node → Tree → Tree → Tree
+next_tree side from n a b = child (turn side from n.key) a b
 
-pub side_within : (t : Tree) (n : Node) (a b : Tree) (k : ℕ) → IsWithin (node n a b) t → IsWithin (side_of n a b k) t
-side_within t n a b k w = go (leb k n.key) (within_below t n a b w)
+pub next_within : (t : Tree) (n : Node) (a b : Tree) (side : Side) (from : ℕ) → IsWithin (node n a b) t → IsWithin (next_tree side from n a b) t
+next_within t n a b side from w = go (turn side from n.key) (within_below t n a b w)
   where
-    go : (c : Bool) → IsWithin a t × IsWithin b t → IsWithin (cond c a b) t
-    go true h = h.0
-    go false h = h.1
+    go : (s : Side) → IsWithin a t × IsWithin b t → IsWithin (child s a b) t
+    go Left h = h.0
+    go Right h = h.1
 
-pub side_root : (n : Node) (a b : Tree) (copy : RowCopy) (k : ℕ) → IsCopyOf n a b copy → root (side_of n a b k) ≡ cond (leb k copy.key) copy.left copy.right
-side_root n a b copy k c = go (leb k n.key) ∙ ap (λ (x : ℕ). cond (leb k x) copy.left copy.right) (sym c.key)
+pub next_root : (n : Node) (a b : Tree) (copy : RowCopy) (side : Side) (from : ℕ) → IsCopyOf n a b copy → root (next_tree side from n a b) ≡ on (turn side from copy.key) copy.left copy.right
+next_root n a b copy side from c = go (turn side from n.key) ∙ ap (λ (x : ℕ). on (turn side from x) copy.left copy.right) (sym c.key)
   where
-    go : (q : Bool) → root (cond q a b) ≡ cond q copy.left copy.right
-    go true = sym c.left
-    go false = sym c.right
+    go : (s : Side) → root (child s a b) ≡ on s copy.left copy.right
+    go Left = sym c.left
+    go Right = sym c.right
 
-pub side_depth : (n : Node) (a b : Tree) (k : ℕ) → depth (side_of n a b k) + 1 ≤ depth (node n a b)
-side_depth n a b k = go (leb k n.key)
+pub next_depth : (n : Node) (a b : Tree) (side : Side) (from : ℕ) → depth (next_tree side from n a b) + 1 ≤ depth (node n a b)
+next_depth n a b side from = go (turn side from n.key)
   where
-    go : (q : Bool) → depth (cond q a b) + 1 ≤ max (depth a) (depth b) + 1
-    go true = omega arith
-    go false = omega arith
+    go : (s : Side) → depth (child s a b) + 1 ≤ max (depth a) (depth b) + 1
+    go Left = omega arith
+    go Right = omega arith
 
-pub side_find : (n : Node) (a b : Tree) (k : ℕ) → n.key ≢ k → find (node n a b) k ≡ find (side_of n a b k) k
-side_find n a b k ne = elim (cases_order k n.key) [
+-- where a key is looked for, that way is the key's own
+pub next_find : (n : Node) (a b : Tree) (k : ℕ) → n.key ≢ k → find (node n a b) k ≡ find (next_tree Right k n a b) k
+next_find n a b k ne = elim (cases_order k n.key) [
   | inl e ↦ absurd (ne (sym e))
   | inr (inl l) ↦ (let g : leb k n.key ≡ true = le-leb k n.key (omega arith) in rw g (find_left n a b k l))
   | inr (inr l) ↦ (let g : leb k n.key ≡ false = lt-leb k n.key l in rw g (find_right n a b k l))

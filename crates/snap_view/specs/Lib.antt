@@ -1,4 +1,4 @@
 pub mod Readable
 pub mod Tops
 pub mod Nearest
-pub mod Ascending
+pub mod Walks

@@ -1,15 +1,69 @@
--- The row with the least key from some key on, by what the map has from there.
-use Rattle.std.specs.Prelude.{◌≡◌, ℕ, ◌+◌, ◌<◌, ◌≤◌, [], ◌++◌, Option, Some, None}
-use Rattle.snap_model.specs.SortedMap.{Pairs, range}
-use Rattle.snap_rule.specs.Tree.{entry}
+-- The row nearest to a key, on one side of it.
+use Rattle.std.specs.Prelude.{◌≡◌, ℕ, ◌+◌, ◌<◌, ◌≤◌, ◌^◌, Bool, nat_le, Option, Some, None, if◌then◌else◌}
+use Rattle.snap_rule.specs.Tree.{Tree}
+use Rattle.snap_rule.specs.Tree.Tree.{empty, node}
+use Rattle.snap_stamp.specs.Sides.{Toward, other}
+use Rattle.snap_stamp.specs.declared.side.Side.{Side}
+use Rattle.snap_stamp.specs.declared.side.Side.TheVariants.{Left, Right}
 
--- no pair of the map has a key from low on and before this one, whose row has this value or none
-pub record BeginsAt (m : Pairs) (low key : ℕ) (value : Option ℕ) : Type 0 where
-  pub from : low ≤ key
-  pub past : (high : ℕ) → high < key → range m low high ≡ []
-  pub goes_on : (high : ℕ) → key ≤ high → range m low high ≡ entry key value ++ range m (key + 1) high
+-- the key is `from`, or lies on that side of it
+abbrev pub Reaches : Side → ℕ → ℕ → Type 0
+Reaches Left from key = key ≤ from
+Reaches Right from key = from ≤ key
 
--- that row, or that the map has no key from low on
-abbrev pub IsNearest : Pairs → ℕ → Option (ℕ × Option ℕ) → Type 0
-IsNearest m low None = (high : ℕ) → range m low high ≡ []
-IsNearest m low (Some p) = BeginsAt m low p.0 p.1
+abbrev pub reaches : Side → ℕ → ℕ → Bool
+reaches Left from key = nat_le key from
+reaches Right from key = nat_le from key
+
+-- the key lies so and has this value or none, and the keys that lie nearer have none
+pub record IsNearestAt (has : ℕ → Option ℕ) (side : Side) (from key : ℕ) (value : Option ℕ) : Type 0 where
+  pub lies : Reaches side from key
+  pub is : has key ≡ value
+  pub nearer : (k : ℕ) → Reaches side from k → Toward side key k → has k ≡ None
+
+-- that key, or that no key lies so and has a value
+abbrev pub IsNearest : (ℕ → Option ℕ) → Side → ℕ → Option (ℕ × Option ℕ) → Type 0
+IsNearest has side from None = (k : ℕ) → Reaches side from k → has k ≡ None
+IsNearest has side from (Some p) = IsNearestAt has side from p.0 p.1
+
+-- the same of the keys with a value, of 64 bits
+abbrev pub IsNearestPair : (ℕ → Option ℕ) → Side → ℕ → Option (ℕ × ℕ) → Type 0
+IsNearestPair has side from None = (k : ℕ) → k < 2 ^ 64 → Reaches side from k → has k ≡ None
+IsNearestPair has side from (Some p) = IsNearestAt has side from p.0 (Some p.1)
+
+-- the next key on that side, or that there is none of 64 bits
+abbrev pub IsBehind : Side → ℕ → Option ℕ → Type 0
+IsBehind Left key None = key ≡ 0
+IsBehind Left key (Some k) = key ≡ k + 1
+IsBehind Right key None = key + 1 ≡ 2 ^ 64
+IsBehind Right key (Some k) = (k ≡ key + 1) × (k < 2 ^ 64)
+
+-- the next key behind a row's, or none where there is no row
+abbrev pub IsPast : Option (ℕ × Option ℕ) → Option ℕ → Type 0
+IsPast None next = next ≡ None
+IsPast (Some p) next = IsBehind Right p.0 next
+
+-- the way down a tree to the node nearest to `from` goes on from a node with this key on this side
+abbrev pub turn : Side → ℕ → ℕ → Side
+turn side from key = if reaches side from key then other side else side
+
+abbrev pub on : {A : Type 0} → Side → A → A → A
+on Left a b = a
+on Right a b = b
+
+abbrev pub or_else : Option (ℕ × Option ℕ) → Option (ℕ × Option ℕ) → Option (ℕ × Option ℕ)
+or_else None p = p
+or_else (Some q) p = Some q
+
+abbrev pub if_reached : Side → ℕ → ℕ × Option ℕ → Option (ℕ × Option ℕ)
+if_reached side from p = if reaches side from p.0 then Some p else None
+
+-- that node's key and value
+abbrev pub nearest_row : Side → ℕ → Tree → Option (ℕ × Option ℕ)
+nearest_row side from empty = None
+nearest_row side from (node n a b) = or_else (on (turn side from n.key) (nearest_row side from a) (nearest_row side from b)) (if_reached side from (n.key, n.value))
+
+-- how many nodes stand on that way
+abbrev pub levels : Side → ℕ → Tree → ℕ
+levels side from empty = 0
+levels side from (node n a b) = on (turn side from n.key) (levels side from a) (levels side from b) + 1

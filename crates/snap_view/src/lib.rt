@@ -3,7 +3,13 @@
 #![tactic(auto)]
 
 mod ascend;
+mod counting;
+mod descend;
+mod nearest;
+mod ordered;
 mod table_view;
+mod way;
 
 pub use ascend::Ascend;
+pub use descend::Descend;
 pub use table_view::TableView;

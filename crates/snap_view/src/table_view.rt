@@ -1,16 +1,17 @@
-//! A clone and its look-ups.
-ghost use Rattle.std.specs.Prelude.{◌≡◌, ◌≤◌, ◌+◌, Some, if◌then◌else◌, nat_le};
+//! A clone, the value at a key, and its pairs.
+ghost use Rattle.std.specs.Prelude.{◌≡◌, ◌≤◌, ◌+◌, reverse};
 ghost use Rattle.snap_model.specs.History.{after};
 ghost use Rattle.snap_model.specs.SortedMap.{at, range};
 ghost use Rattle.snap_rule.specs.Tree.{Tree, depth, root};
 ghost use Rattle.snap_steps.specs.Clones.{image, IsCloneOf, IsWithin};
-ghost use Rattle.snap_view.specs.Ascending.{pairs_left};
-ghost use Rattle.snap_view.specs.Nearest.{IsNearest};
 ghost use Rattle.snap_view.specs.Readable.{IsReadable};
+ghost use Rattle.snap_view.specs.Walks.{pairs_left, falling_left};
 ghost use Rattle.snap_view.specs.Tops.{HasTree, IsTopOf, rows_read};
 
 use crate::ascend::Ascend;
-use snap_stamp::{Key, RowNo};
+use crate::descend::Descend;
+use crate::way::below;
+use snap_stamp::{Key, RowNo, Side};
 use snap_steps::{RowCopy, Rows, Steps, ViewSeat, load_row};
 use std::marker::Model;
 use std::sync::ledger::Ledger;
@@ -18,7 +19,7 @@ use std::sync::ledger::Ledger;
 /// A clone of a table. Its answers are those of the map after its base, the table's history when it was cut.
 #[derive(Drop)]
 pub struct TableView<'t> {
-    rows: &'t Rows,
+    pub(crate) rows: &'t Rows,
     seat: ViewSeat,
 }
 
@@ -31,28 +32,6 @@ impl<'t> Model for TableView<'t> {
     ghost view = { λ v. v.seat };
 
     ghost invariant = { λ v. IsReadable v.rows.now v.seat };
-}
-
-// The row below this one on the side of the key.
-fn toward(copy: &RowCopy, key: Key) -> RowNo
-    ensures { result ≡ (if nat_le key copy.now.key then copy.now.left else copy.now.right) }
-{
-    if key <= copy.key {
-        copy.left
-    } else {
-        copy.right
-    }
-}
-
-// The nearer of two rows with keys from `low` on, as key and value, where the copy is nearer if it is one of them.
-fn nearer(best: Option<(Key, Option<u64>)>, copy: &RowCopy, low: Key) -> Option<(Key, Option<u64>)>
-    ensures { result ≡ (if nat_le low copy.now.key then Some (copy.now.key, copy.now.value) else best) }
-{
-    if low <= copy.key {
-        Some((copy.key, copy.value))
-    } else {
-        best
-    }
 }
 
 impl<'t> TableView<'t> {
@@ -82,7 +61,7 @@ impl<'t> TableView<'t> {
     }
 
     // The top of the tree that stands at this row, none where there is no row.
-    fn row_at<L: Ledger>(&mut self, row: RowNo, steps: &mut Steps<L>) -> Option<RowCopy>
+    pub(crate) fn row_at<L: Ledger>(&mut self, row: RowNo, steps: &mut Steps<L>) -> Option<RowCopy>
         requires { HasTree (image self.old) row }
         ensures top { (t : Tree) → IsWithin t (image self.old) → root t ≡ row → IsTopOf t result }
         ensures view { self.new ≡ self.old }
@@ -96,7 +75,7 @@ impl<'t> TableView<'t> {
     }
 
     // The top of the clone's tree.
-    fn top<L: Ledger>(&mut self, steps: &mut Steps<L>) -> Option<RowCopy>
+    pub(crate) fn top<L: Ledger>(&mut self, steps: &mut Steps<L>) -> Option<RowCopy>
         ensures top { IsTopOf (image self.old) result }
         ensures clone { IsCloneOf self.old.base (image self.old) }
         ensures view { self.new ≡ self.old }
@@ -117,7 +96,7 @@ impl<'t> TableView<'t> {
             if copy.key == key {
                 return copy.value;
             }
-            here = self.row_at(toward(&copy, key), steps);
+            here = self.row_at(below(&copy, Side::Right, key), steps);
         }
         None
     }
@@ -136,6 +115,20 @@ impl<'t> TableView<'t> {
         }
     }
 
+    /// The pairs whose keys lie from `low` to `high`, by falling keys.
+    pub fn range_down(&mut self, low: Key, high: Key) -> Descend<'t>
+        ensures pairs { falling_left result ≡ reverse (range (after self.old.base) low high) }
+        ensures view { self.new ≡ self.old }
+    {
+        let view = self.twin();
+        Descend {
+            view,
+            low,
+            high,
+            ended: false,
+        }
+    }
+
     /// All pairs, by rising keys.
     pub fn pairs(&mut self) -> Ascend<'t>
         ensures pairs { pairs_left result ≡ after self.old.base }
@@ -143,23 +136,5 @@ impl<'t> TableView<'t> {
     {
         let _rows = self.rows;
         self.range(0, Key::MAX)
-    }
-
-    // The row with the least key from `low` on, as its key and its value if it has one.
-    pub(crate) fn nearest<L: Ledger>(
-        &mut self,
-        low: Key,
-        steps: &mut Steps<L>,
-    ) -> Option<(Key, Option<u64>)>
-        ensures nearest { IsNearest (after self.old.base) low result }
-        ensures view { self.new ≡ self.old }
-    {
-        let mut best = None;
-        let mut here = self.top(steps);
-        while let Some(copy) = here {
-            best = nearer(best, &copy, low);
-            here = self.row_at(toward(&copy, low), steps);
-        }
-        best
     }
 }

@@ -1,0 +1,12 @@
+use Rattle.std.proofs.Common.{◌≡◌}
+use Rattle.snap_model.specs.History.{after}
+use Rattle.snap_model.specs.SortedMap.{at}
+use Rattle.snap_view.proofs.Passing.{HasPassed, keys_ahead}
+use Rattle.snap_view.proofs.table_view.TableView.nearest_pair.Given as goal
+
+-- no pair stands before the next key
+abbrev pub invariant-loop-next : goal.invariant-loop-next
+invariant-loop-next g l = (l.self ≡ l.fn.self) × HasPassed (at (after l.fn.self.base)) l.side l.from l.next
+
+abbrev pub decreases-loop-next : goal.decreases-loop-next
+decreases-loop-next g l = keys_ahead l.side l.next

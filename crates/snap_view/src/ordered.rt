@@ -1,0 +1,63 @@
+//! The ordered answers of a clone.
+ghost use Rattle.std.specs.Prelude.{◌≡◌};
+ghost use Rattle.snap_model.specs.History.{after};
+ghost use Rattle.snap_model.specs.SortedMap.{first_pair, last_pair, floor, lower, ceiling, higher};
+
+use crate::table_view::TableView;
+use crate::way::behind;
+use snap_stamp::{Key, Side};
+use snap_steps::Steps;
+use std::sync::ledger::Ledger;
+
+impl<'t> TableView<'t> {
+    /// The pair with the least key.
+    pub fn first<L: Ledger>(&mut self, steps: &mut Steps<L>) -> Option<(Key, u64)>
+        ensures first { result ≡ first_pair (after self.old.base) }
+        ensures view { self.new ≡ self.old }
+    {
+        self.nearest_pair(Side::Right, 0, steps)
+    }
+
+    /// The pair with the greatest key.
+    pub fn last<L: Ledger>(&mut self, steps: &mut Steps<L>) -> Option<(Key, u64)>
+        ensures last { result ≡ last_pair (after self.old.base) }
+        ensures view { self.new ≡ self.old }
+    {
+        self.nearest_pair(Side::Left, Key::MAX, steps)
+    }
+
+    /// The pair with the greatest key that is at most this one.
+    pub fn floor<L: Ledger>(&mut self, key: Key, steps: &mut Steps<L>) -> Option<(Key, u64)>
+        ensures floor { result ≡ floor (after self.old.base) key }
+        ensures view { self.new ≡ self.old }
+    {
+        self.nearest_pair(Side::Left, key, steps)
+    }
+
+    /// The pair with the greatest key below this one.
+    pub fn lower<L: Ledger>(&mut self, key: Key, steps: &mut Steps<L>) -> Option<(Key, u64)>
+        ensures lower { result ≡ lower (after self.old.base) key }
+        ensures view { self.new ≡ self.old }
+    {
+        let before = behind(Side::Left, key)?;
+        self.nearest_pair(Side::Left, before, steps)
+    }
+
+    /// The pair with the least key that is at least this one.
+    pub fn ceiling<L: Ledger>(&mut self, key: Key, steps: &mut Steps<L>) -> Option<(Key, u64)>
+        ensures ceiling { result ≡ ceiling (after self.old.base) key }
+        ensures view { self.new ≡ self.old }
+    {
+        self.nearest_pair(Side::Right, key, steps)
+    }
+
+    /// The pair with the least key above this one.
+    pub fn higher<L: Ledger>(&mut self, key: Key, steps: &mut Steps<L>) -> Option<(Key, u64)>
+        ensures higher { result ≡ higher (after self.old.base) key }
+        ensures view { self.new ≡ self.old }
+    {
+        let _rows = self.rows;
+        let next = behind(Side::Right, key)?;
+        self.nearest_pair(Side::Right, next, steps)
+    }
+}
