@@ -42,6 +42,41 @@ pub fn clone_cost<R: Wait + Clock>(rt: &R, alloc: Global, size: u32) -> Result<C
     Ok(CloneCost { clone, drawn, copy })
 }
 
+/// What it costs to count the pairs of a clone in a range.
+#[derive(Drop)]
+pub struct CountCost {
+    /// How many pairs were counted.
+    pub pairs: u64,
+    /// Nanoseconds of the count.
+    pub nanos: u64,
+}
+
+/// Counts about so many neighbouring pairs of a clone of the size.
+pub fn count_cost<R: Wait + Clock>(
+    rt: &R,
+    alloc: Global,
+    size: u32,
+    wanted: u32,
+) -> Result<CountCost, Fault>
+    requires { size ≤ 1_000_000 }
+{
+    let (table, passes) = open_table(alloc, size + 48, 1)?;
+    let mut workers = workers_of(alloc, &table, passes)?;
+    let Some(mut worker) = workers.pop() else {
+        return Err(Fault::Out);
+    };
+    fill(rt, &mut worker, size)?;
+    let mut view = worker.clone_view(rt)?;
+    let apart = u64::MAX / size.max(1) as u64;
+    let high = apart.saturating_mul(wanted as u64);
+    let start = Instant::now(rt)?;
+    let pairs = view.count(0, high);
+    let taken = start.elapsed(rt)?.as_nanos();
+    view.release();
+    let nanos = u64::try_from(taken).unwrap_or(u64::MAX);
+    Ok(CountCost { pairs, nanos })
+}
+
 // Puts so many keys in an order as if by lot.
 fn fill<R, W: Worker<R>>(rt: &R, worker: &mut W, size: u32) -> Result<(), Fault> {
     for number in 0..size {

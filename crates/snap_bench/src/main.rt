@@ -8,7 +8,7 @@ mod keys;
 mod rounds;
 mod workers;
 
-use clones::{CloneCost, clone_cost, scan_rate};
+use clones::{CloneCost, CountCost, clone_cost, count_cost, scan_rate};
 use fault::Fault;
 use rounds::{Rates, of_mutex, of_rwlock, of_table};
 use std::alloc::Global;
@@ -26,6 +26,9 @@ const THREADS: [u32; 3] = [1, 2, 4];
 
 /// How large the maps are of which clones are made.
 const SIZES: [u32; 4] = [1_000, 10_000, 100_000, 1_000_000];
+
+/// About how many pairs of the largest clone are counted.
+const COUNTS: [u32; 4] = [1, 100, 10_000, 1_000_000];
 
 /// How many threads write while a clone is read.
 const WRITERS: [u32; 3] = [0, 1, 3];
@@ -85,6 +88,11 @@ fn time_clones<R: Print + Threads + Wait + Clock + Sync>(
     for size in SIZES {
         let CloneCost { clone, drawn, copy } = clone_cost(rt, alloc, size)?;
         println!(rt; "{size}, {clone}, {drawn}, {copy}")?;
+    }
+    println!(rt; "pairs counted of a clone of 1000000, nanoseconds")?;
+    for wanted in COUNTS {
+        let CountCost { pairs, nanos } = count_cost(rt, alloc, 1_000_000, wanted)?;
+        println!(rt; "{pairs}, {nanos}")?;
     }
     println!(rt; "writers, pairs of a clone of 100000 a second")?;
     for writers in WRITERS {
