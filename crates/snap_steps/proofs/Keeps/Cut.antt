@@ -1,5 +1,5 @@
 -- The cut of a clone keeps the rule.
-use Rattle.std.proofs.Common.{◌<◌, ◌≤◌, true, false, ◌≡◌, ℕ, ◌+◌, ◌%◌, ◌^◌, List, [], get_or, sym, refl, ap, ◌∙◌, subst, arith, length, length-append, ◌∷◌}
+use Rattle.std.proofs.Common.{◌≤◌, true, false, ◌≡◌, ℕ, ◌+◌, ◌%◌, ◌^◌, List, [], get_or, sym, refl, ap, ◌∙◌, subst, arith, length, length-append, ◌∷◌}
 use lib.ListN.{get_elem?}
 use mathlib.Core.Option.{some}
 use Rattle.atomic_table.specs.Table.{step, keeps, Allows}

@@ -11,7 +11,7 @@ use Rattle.snap_rule.specs.declared.change.Doing.TheVariants.{Nothing, Unlinked,
 use Rattle.snap_stamp.specs.Stamps.{IsShrinking}
 use Rattle.snap_stamp.specs.declared.side.Side.{Side}
 use Rattle.snap_stamp.specs.declared.side.Side.TheVariants as sides
-use Rattle.snap_steps.specs.Counting.{times, total}
+use Rattle.snap_steps.specs.Counting.{times}
 use Rattle.snap_steps.specs.Memory.{Row, row, with_field}
 use Rattle.snap_steps.specs.Rule.{Kept}
 use Rattle.snap_steps.specs.Rule.Changes.{changing}
