@@ -13,7 +13,7 @@ use Rattle.snap_rule.specs.Views.{View, ReadingOk, TryingOk, ViewOk, at_seat, wi
 use Rattle.snap_rule.specs.declared.quiescence.Trying.{Trying}
 use Rattle.snap_rule.specs.declared.reader.Reading.{Reading}
 use Rattle.snap_rule.specs.declared.reader.Reading.TheVariants.{Resting, On}
-use Rattle.snap_rule.specs.declared.quiescence.Trying.TheVariants.{Idle, Since}
+use Rattle.snap_rule.specs.declared.quiescence.Trying.TheVariants.{Idle, Since, Troubled}
 use Rattle.snap_rule.proofs.Moments.{begins_trans}
 use Rattle.snap_rule.proofs.Readers.Kept.{point_kept}
 use Rattle.snap_rule.proofs.Quiet.{quiet_kept}
@@ -53,9 +53,10 @@ module _ (s s' : State) (ev : Evolves s s') where
   reading_kept seen Resting b h = tt
   reading_kept seen (On k t) b h = point_kept s s' ev seen k t b h
 
-  trying_kept : (t : Trying) → TryingOk s t → TryingOk s' t
+  pub trying_kept : (t : Trying) → TryingOk s t → TryingOk s' t
   trying_kept Idle h = tt
   trying_kept (Since ended l low high c) h = (quiet_kept s s' ended l ev h.0, calm_kept s s' ended low high c l ev h.0 h.1)
+  trying_kept (Troubled ended) h = omega (arith, ev.entered, h)
 
   -- another pass's view
   view_kept : (u : View) (who : ℕ) → TreeOk s → u.who ≢ who → LeavesOthers s s' who → ViewOk s u → ViewOk s' u

@@ -1,6 +1,6 @@
 -- What the passes know, each for itself, and what the step of one leaves to the others. A view is what one pass knows: the
 -- history that it has seen, its way to a key, its call of `try_get`, and its change.
-use Rattle.std.specs.Prelude.{List, None, Option, Some, [], suc, zero, ℕ, ◌+◌, ◌∷◌, ◌≡◌, ◌≢◌}
+use Rattle.std.specs.Prelude.{List, None, Option, Some, [], suc, zero, ℕ, ◌+◌, ◌/◌, ◌<◌, ◌∷◌, ◌≡◌, ◌≢◌}
 use Rattle.snap_model.specs.History.{Begins}
 use Rattle.snap_model.specs.declared.call.Entry.{Entry}
 use Rattle.snap_rule.specs.Doing.{Apart, Concerns, DoingOk}
@@ -10,7 +10,7 @@ use Rattle.snap_rule.specs.Rule.{TableOk}
 use Rattle.snap_rule.specs.State.{State, WasLinked}
 use Rattle.snap_rule.specs.declared.change.Doing.{Doing}
 use Rattle.snap_rule.specs.declared.quiescence.Trying.{Trying}
-use Rattle.snap_rule.specs.declared.quiescence.Trying.TheVariants.{Idle, Since}
+use Rattle.snap_rule.specs.declared.quiescence.Trying.TheVariants.{Idle, Since, Troubled}
 use Rattle.snap_rule.specs.declared.reader.Reading.{Reading}
 use Rattle.snap_rule.specs.declared.reader.Reading.TheVariants.{On, Resting}
 
@@ -30,6 +30,7 @@ ReadingOk s seen (On k t) = PointOk s seen k t
 abbrev pub TryingOk : State → Trying → Type 0
 TryingOk s Idle = Unit {0}
 TryingOk s (Since ended l low high c) = QuietOk s ended l × CalmOk s ended low high c
+TryingOk s (Troubled ended) = ended < s.gate / 2
 
 -- what is known of one pass, which holds the rows of its change
 pub record ViewOk (s : State) (v : View) : Type 0 where

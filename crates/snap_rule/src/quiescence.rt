@@ -24,6 +24,10 @@ pub enum Trying {
         high: Key,
         child: RowNo,
     },
+    /// It met trouble, so a write was entered since it loaded this count of ended writes.
+    Troubled {
+        ended: u64,
+    },
 }
 
 /// A call that loads the count of ended writes.

@@ -5,9 +5,12 @@
 mod down;
 mod places;
 mod reading;
+mod trying;
 
 pub use places::{Place, find_for_write};
 pub use reading::get;
+pub use snap_steps::Busy;
+pub use trying::try_get;
 
 #[cfg(test)]
 mod tests;

@@ -1,5 +1,5 @@
 //! Searches in a table without keys.
-use crate::{Place, find_for_write, get};
+use crate::{Place, find_for_write, get, try_get};
 use snap_stamp::Side;
 use snap_steps::{Rows, try_enter};
 use std::test::Fail;
@@ -9,6 +9,7 @@ fn an_empty_table_has_no_key(rt: HostRuntime) -> Result<(), Fail> {
     let (rows, mut passes) = Rows::open(rt.alloc(), 1, 1)?;
     let mut p = passes.pop().ok_or("no pass")?;
     assert_eq!(rt; get(&rows, &rt, &mut p, 7), None);
+    assert_eq!(rt; try_get(&rows, &mut p, 7), Ok(None));
     let Ok(()) = try_enter(&rows, &mut p, 0) else {
         return Err("p does not enter".into());
     };

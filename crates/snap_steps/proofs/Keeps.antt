@@ -13,4 +13,5 @@ pub mod Changes
 pub mod Copies
 pub mod Below
 pub mod Way
+pub mod Trying
 pub mod Clones

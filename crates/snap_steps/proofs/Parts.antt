@@ -11,4 +11,6 @@ pub mod Apart
 pub mod Worn
 pub mod Lasting
 pub mod Bases
+pub mod Tries
+pub mod Marks
 pub mod Linked

@@ -8,6 +8,7 @@ use Rattle.snap_steps.specs.declared.view.Role.{Role}
 use Rattle.snap_steps.specs.declared.view.Role.TheVariants.{Opening, Passing, Noting, Spent}
 use Rattle.snap_steps.specs.declared.view.View.{View}
 use Rattle.snap_steps.specs.declared.view.Stage.TheVariants.{Idle}
+use Rattle.snap_rule.specs.declared.quiescence.Trying.TheVariants as quiet
 
 abbrev pub is_live : Role → ℕ
 is_live Opening = 1
@@ -37,7 +38,7 @@ abbrev pub no_base : Base
 no_base = record { history = []; parts = []; noted = 0 }
 
 abbrev pub blank : ℕ → ℕ → Role → ℕ → View
-blank rows passes role who = record { rows = rows; passes = passes; who = who; role = role; stage = Idle; seen = []; mine = []; notes = []; handed = 0; epochs = 0; worn = false; drawn = []; cuts = []; uses = 0; admitted = []; base = no_base; holds = []; knows = []; refused = []; lasting = []; reached = []; own = []; wrote = []; reads = Resting; confirmed = []; place = Resting; doing = Nothing; present = []; copies = []; steps = 0; joined = [] }
+blank rows passes role who = record { rows = rows; passes = passes; who = who; role = role; stage = Idle; seen = []; mine = []; notes = []; handed = 0; epochs = 0; worn = false; drawn = []; cuts = []; uses = 0; admitted = []; base = no_base; holds = []; knows = []; refused = []; lasting = []; reached = []; own = []; wrote = []; reads = Resting; confirmed = []; place = Resting; tries = quiet.Idle; doing = Nothing; present = []; copies = []; steps = 0; joined = [] }
 
 -- a seat that counts nowhere, and knows this
 abbrev pub silent : ℕ → ℕ → List Entry → ℕ → ℕ → Bool → Base → View

@@ -15,6 +15,8 @@ pub mod Apart
 pub mod Worn
 pub mod Lasting
 pub mod Bases
+pub mod Tries
+pub mod Marks
 use Rattle.std.specs.Prelude.{◌≡◌, ℕ, List, length}
 use Rattle.snap_rule.specs.Doing.{DoingOk}
 use Rattle.snap_rule.specs.Rule.{TableOk}
@@ -44,6 +46,8 @@ use Rattle.snap_steps.specs.Rule.Epochs.{KnowsEpoch}
 use Rattle.snap_steps.specs.Rule.Worn.{KnowsWorn}
 use Rattle.snap_steps.specs.Rule.Lasting.{AreLasting}
 use Rattle.snap_steps.specs.Rule.Bases.{KnowsBase}
+use Rattle.snap_steps.specs.Rule.Tries.{KnowsTry}
+use Rattle.snap_steps.specs.Rule.Marks.{AreMarked}
 use Rattle.snap_steps.specs.Numbers.{all_cuts}
 
 pub record Kept (about : About) (words : List ℕ) (views : List View) : Type 0 where
@@ -76,3 +80,5 @@ pub record Kept (about : About) (words : List ℕ) (views : List View) : Type 0 
   pub worn : Each (KnowsWorn (state_of m g)) views
   pub lasting : Each (λ v. AreLasting (state_of m g) v.lasting) views
   pub based : Each (KnowsBase (state_of m g)) views
+  pub tries : Each (KnowsTry (state_of m g)) views
+  pub marked : AreMarked m.rows views

@@ -11,4 +11,5 @@ pub mod Locks
 pub mod Writes
 pub mod Changes
 pub mod Way
+pub mod Trying
 pub mod Clones

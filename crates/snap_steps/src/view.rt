@@ -1,11 +1,11 @@
 //! What a seat knows of its table: plain data for clauses and proofs, of which no value is made.
 use snap_model::Entry;
-use snap_rule::{Doing, Reading};
+use snap_rule::{Doing, Reading, Trying};
 use snap_stamp::Field;
 use std::collections::LinkedList;
 
 /// A word as a pass loaded it: one of the header, or the birth of a row to which all checks had led it on the way of a
-/// key, with that key.
+/// key, with that key; or that a load told it of a write in progress.
 pub enum WordNote {
     Next(u32),
     Gate(u64),
@@ -13,6 +13,7 @@ pub enum WordNote {
     Done(u64),
     Epoch(u64),
     Birth(u64, u64),
+    Trouble,
 }
 
 /// What is kept of a number that was admitted.
@@ -116,6 +117,8 @@ pub struct View {
     pub confirmed: LinkedList<u32>,
     /// The row from which it last went on there, with its stamp and the side: the place where the way ended.
     pub place: Reading,
+    /// The call that never waits, where it is in one.
+    pub tries: Trying,
     /// The change that it is in.
     pub doing: Doing,
     /// What it loaded as the epoch in this write.

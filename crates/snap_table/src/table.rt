@@ -2,7 +2,7 @@
 ghost use Rattle.std.specs.Prelude.{◌≡◌, ◌+◌, ◌<◌, ◌≤◌, ◌^◌, IfOk, MatchResult};
 ghost use Rattle.snap_model.specs.History.{Begins};
 ghost use Rattle.snap_model.specs.declared.call.Call.TheVariants.{Put, Remove};
-ghost use Rattle.snap_search.specs.Answers.{Reads};
+ghost use Rattle.snap_search.specs.Answers.{FindsBusy, Reads, ReadsAtOnce};
 ghost use Rattle.snap_rule.specs.Tree.{root};
 ghost use Rattle.snap_steps.specs.Clones.{image};
 ghost use Rattle.snap_steps.specs.Copies.{clone_of};
@@ -21,6 +21,7 @@ ghost use Rattle.snap_update.specs.Answers.{FitsWord};
 use crate::held::Held;
 use snap_epoch::{close, enter, freeze, leave, reopen};
 use snap_model::{Call, OutOfMemory};
+use snap_search::Busy;
 use snap_stamp::Key;
 use snap_steps::{Front, Full, Note, Pass, Receipt, Rows, ViewSeat, close_rows, load_next};
 use snap_update::write;
@@ -116,6 +117,15 @@ impl SnapTable {
         ensures { Reads pass.old pass.new key result }
     {
         snap_search::get(&self.rows, rt, pass, key)
+    }
+
+    /// The value at the key, as by `get`, without waiting and without beginning again; or that a write was in progress
+    /// at some moment of the call. It takes at most a step for each key, and mostly as few as the tree is deep.
+    pub fn try_get(&self, pass: &mut Pass, key: Key) -> Result<Option<u64>, Busy>
+        requires { IsOf pass.old self.now }
+        ensures { MatchResult result (λ a. ReadsAtOnce pass.old pass.new key a) (λ b. FindsBusy pass.old pass.new b) }
+    {
+        snap_search::try_get(&self.rows, pass, key)
     }
 
     /// A clone of the table: the map as it is once no write is in progress, for good. It waits for the writes in

@@ -12,7 +12,7 @@ use Rattle.snap_steps.specs.Histories.{Enters}
 use Rattle.snap_steps.specs.Seen.{Known}
 use Rattle.snap_steps.specs.Steps.Writes.{entry}
 use Rattle.snap_steps.specs.declared.view.WordNote.{WordNote}
-use Rattle.snap_steps.specs.declared.view.WordNote.TheVariants.{Next, Gate, Left, Done, Epoch, Birth}
+use Rattle.snap_steps.specs.declared.view.WordNote.TheVariants.{Next, Gate, Left, Done, Epoch, Birth, Trouble}
 use Rattle.snap_steps.specs.declared.view.Stage.TheVariants.{Writing}
 use Rattle.snap_steps.specs.declared.view.View.{View}
 
@@ -69,6 +69,7 @@ is_older key epoch (Gate g) = 0
 is_older key epoch (Left a) = 0
 is_older key epoch (Done d) = 0
 is_older key epoch (Epoch e) = 0
+is_older key epoch Trouble = 0
 
 abbrev pub older_births : ℕ → ℕ → List WordNote → ℕ
 older_births key epoch l = total (is_older key epoch) l

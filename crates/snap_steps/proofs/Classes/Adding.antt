@@ -48,6 +48,9 @@ use Rattle.snap_steps.specs.Rule.Bases.{IsBase, KnowsBase}
 use Rattle.snap_steps.specs.Steps.Clones.{seat_of}
 use Rattle.snap_steps.specs.declared.view.Base.{Base}
 use Rattle.snap_steps.specs.Rule.Worn.{IsWorn, KnowsWorn}
+use Rattle.snap_steps.specs.Rule.Tries.{KnowsTry}
+use Rattle.snap_steps.specs.Rule.Marks.{lowers}
+use Rattle.snap_stamp.specs.Stamps.{IsShrinking}
 use Rattle.snap_steps.specs.Rule.Lasting.{AreLasting}
 
 -- one seat more, which counts nowhere
@@ -106,6 +109,8 @@ silent_more about words views k rows passes seen handed epochs noted_worn base l
   worn = each_more views u k.worn (λ x p. p) is_worn;
   lasting = each_more views u k.lasting (λ x p. p) tt;
   based = each_more views u k.based (λ x p. p) (is_base, λ z. absurd (omega (arith, z)));
+  tries = each_more views u k.tries (λ x p. p) tt;
+  marked = λ n none. k.marked n (omega (arith, none, total_more (λ x. lowers n x.doing) views u));
   cut = omega (arith, k.cut, total_more all_cuts views u);
   acting = each_more views u k.acting (λ x p. p) (λ _. (refl, refl));
   apart = record { low = k.apart.low; own = each_more views u k.apart.own (λ x p. p) (λ r l. absurd (omega arith)); fresh = k.apart.fresh; wrote = each_more views u k.apart.wrote (λ x p. p) tt };
@@ -180,6 +185,8 @@ starts about words few_rows few_passes zeros =
       worn = each_one (KnowsWorn (state_of m g)) v (λ (e : false ≡ true). cc);
       lasting = each_one (λ u. AreLasting (state_of m g) u.lasting) v tt;
       based = each_one (KnowsBase (state_of m g)) v (no_base_is (state_of m g), λ z. absurd (omega (arith, z)));
+      tries = each_one (KnowsTry (state_of m g)) v tt;
+      marked = λ n none z. let zero_stamp : IsShrinking 0 = subst (λ (x : Row). IsShrinking x.stamp) (row_empty (about.rows + 1) n) z in omega (arith, zero_stamp);
       cut = refl;
       acting = each_one ActsAsPass v (λ _. (refl, refl));
       apart = record { low = λ r l. absurd (omega arith); own = each_one (IsOwn []) v (λ r l. absurd (omega arith)); fresh = λ r l z. (ap (λ (x : Row). x.lock) (row_empty (about.rows + 1) r), ap (λ (x : Row). x.stamp) (row_empty (about.rows + 1) r)); wrote = each_one (KnowsOwn m.rows) v tt };
@@ -256,6 +263,8 @@ issues about id v hands idle room s k at =
       worn = each_split s.views id w u k.worn (λ x p. p) (k.worn id v at) (λ (e : false ≡ true). cc);
       lasting = each_split s.views id w u k.lasting (λ x p. p) (k.lasting id v at) tt;
       based = each_split s.views id w u k.based (λ x p. p) (k.based id v at) (no_base_is (state_of k.m k.g), λ z. absurd (omega (arith, z)));
+      tries = each_split s.views id w u k.tries (λ x p. p) (k.tries id v at) tt;
+      marked = λ n none. k.marked n (omega (arith, none, all (λ x. lowers n x.doing)));
       cut = omega (arith, k.cut, all all_cuts);
       acting = each_split s.views id w u k.acting (λ x p. p) (k.acting id v at) (λ z. absurd (omega (arith, z)));
       apart = record { low = k.apart.low; own = each_split s.views id w u k.apart.own (λ x p. p) (k.apart.own id v at) (λ r l. absurd (omega arith)); fresh = k.apart.fresh; wrote = each_split s.views id w u k.apart.wrote (λ x p. p) (k.apart.wrote id v at) tt };

@@ -45,6 +45,9 @@ use Rattle.snap_steps.proofs.Knowing.{known_is}
 use Rattle.snap_steps.proofs.Parts.Bases.{bases_evolve}
 use Rattle.snap_steps.specs.Rule.Bases.{KnowsBase}
 use Rattle.snap_steps.specs.Rule.Worn.{KnowsWorn}
+use Rattle.snap_steps.specs.Rule.Tries.{KnowsTry}
+use Rattle.snap_steps.proofs.Parts.Tries.{tries_evolve}
+use Rattle.snap_steps.proofs.Parts.Marks.{marks_stay}
 use Rattle.snap_steps.specs.Rule.Lasting.{AreLasting}
 use Rattle.snap_steps.proofs.Parts.Lasting.{lastings_evolve}
 use Rattle.snap_steps.specs.Rule.Names.{ActsAsPass}
@@ -60,9 +63,9 @@ pub entering : (about : About) (words : List ℕ) (views : List View) (k : Kept 
     → IsMemory about words' (record k.m { rows = rows' }) → v.role ≡ Passing → v.stage ≡ Writing false false → e.who ≡ v.who → e.reply ≡ told k.g.history (call_key e.call)
     → (let g' : Beside = record b { history = k.g.history ++ e ∷ []; writers = k.g.writers } in Moves (state_of k.m k.g) (state_of (record k.m { rows = rows' }) g') away)
     → ((n : ℕ) (d : Side) → b.pending n d ≡ k.g.pending n d) → ((j : ℕ) (u : View) → get_elem? views j ≡ some u → (n : ℕ) → Concerns u.doing n → away n)
-    → AreLocked rows' (set views id (with_entry v k.g.history e own wrote knows)) → Each (KnowsRows rows') (set views id (with_entry v k.g.history e own wrote knows)) → AreApart k.m.next rows' b.linked (set views id (with_entry v k.g.history e own wrote knows))
+    → AreLocked rows' (set views id (with_entry v k.g.history e own wrote knows)) → Each (KnowsRows rows') (set views id (with_entry v k.g.history e own wrote knows)) → AreApart k.m.next rows' b.linked (set views id (with_entry v k.g.history e own wrote knows)) → ((n : ℕ) → (row rows' n).stamp ≡ (row k.m.rows n).stamp)
     → Kept about words' (set views id (with_entry v k.g.history e own wrote knows))
-entering about words views k id v at words' rows' e b own wrote knows away memory passing writing mine_is reply moves pending clear locked known apart =
+entering about words views k id v at words' rows' e b own wrote knows away memory passing writing mine_is reply moves pending clear locked known apart stamps =
     let w : View = with_entry v k.g.history e own wrote knows in
     let a : in_write v.stage ≡ 1 = ap in_write writing in let c0 : is_closing v.stage ≡ 0 = ap is_closing writing in let c : may_cut v.stage ≡ 0 = ap may_cut writing in let q : is_quiet v.stage ≡ 0 = ap is_quiet writing in
     let o : owes_count v.stage ≡ 0 = ap owes_count writing in let d : has_counted v.stage ≡ 0 = ap has_counted writing in
@@ -97,6 +100,8 @@ entering about words views k id v at words' rows' e b own wrote knows away memor
       worn = each_stays views id v w at (KnowsWorn s') (worns_evolve (state_of k.m k.g) s' views ev k.worn) (λ p. p);
       lasting = each_stays views id v w at (λ u. AreLasting s' u.lasting) (lastings_evolve (state_of k.m k.g) s' views ev k.lasting) (λ p. p);
       based = each_stays views id v w at (KnowsBase s') (bases_evolve about words views k s' ev) (λ p. (p.0, λ z. absurd (omega (arith, z))));
+      tries = each_stays views id v w at (KnowsTry s') (tries_evolve (state_of k.m k.g) s' views ev k.tries) (λ p. p);
+      marked = marks_stay views id v w k.m.rows rows' at k.marked stamps refl;
       cut = cut_stays views id v w at k.m.epoch k.cut refl refl;
       acting = each_stays views id v w at ActsAsPass k.acting (λ _ z. absurd (omega (arith, z, ap is_counted passing)));
       apart = apart;

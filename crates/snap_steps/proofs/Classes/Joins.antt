@@ -27,6 +27,8 @@ use Rattle.snap_steps.specs.States.{state_of}
 use Rattle.snap_steps.specs.declared.view.Admitted.{Admitted}
 use Rattle.snap_steps.proofs.Parts.Worn.{or_cases}
 use Rattle.snap_steps.specs.Steps.Seats.{learned}
+use Rattle.snap_steps.proofs.Parts.Marks.{none_lowers}
+use Rattle.snap_steps.specs.Rule.Marks.{lowers}
 
 -- the view of a pass to which a seat was joined, and which speaks for these numbers beside its own
 abbrev pub joined_with : View → View → List Admitted → View
@@ -102,6 +104,8 @@ joining about words views k id v at other u apart more there passing not_opening
       worn = each_join views id v b at other u gone apart there k.worn (λ x p. p) (λ saw. ⊎_elim (k.worn id v at) (k.worn other u before_u) (or_cases v.worn u.worn saw)) (λ (e : false ≡ true). cc);
       lasting = each_join views id v b at other u gone apart there k.lasting (λ x p. p) (k.lasting id v at) tt;
       based = each_join views id v b at other u gone apart there k.based (λ x p. p) (k.based id v at) (no_base_is (state_of k.m k.g), λ z. absurd (omega (arith, z)));
+      tries = each_join views id v b at other u gone apart there k.tries (λ x p. p) (k.tries id v at) tt;
+      marked = λ n none. k.marked n (omega (arith, none, sum (λ x. lowers n x.doing), none_lowers u.doing u.holds n (k.held other u before_u) (free n)));
       apart = record {
         low = k.apart.low;
         own = each_join views id v b at other u gone apart there k.apart.own (λ x p. p) (k.apart.own id v at) (λ r l. absurd (omega arith));

@@ -33,6 +33,9 @@ use Rattle.snap_steps.proofs.Parts.Uses.{used_stays, cut_stays}
 use Rattle.snap_steps.proofs.Parts.Bases.{bases_evolve}
 use Rattle.snap_steps.specs.Rule.Bases.{KnowsBase}
 use Rattle.snap_steps.specs.Rule.Worn.{KnowsWorn}
+use Rattle.snap_steps.specs.Rule.Tries.{KnowsTry}
+use Rattle.snap_steps.proofs.Parts.Tries.{tries_evolve}
+use Rattle.snap_steps.proofs.Parts.Marks.{marks_stay, stamps_same}
 use Rattle.snap_steps.specs.Rule.Lasting.{AreLasting}
 use Rattle.snap_steps.proofs.Parts.Lasting.{lastings_evolve}
 use Rattle.snap_steps.specs.Rule.Names.{ActsAsPass}
@@ -71,6 +74,8 @@ locking about words views k id v at r n low holds knows writing are_locked known
       worn = each_stays views id v w at (KnowsWorn (state_of (record k.m { rows = rows' }) k.g)) (worns_evolve (state_of k.m k.g) (state_of (record k.m { rows = rows' }) k.g) views moves.0 k.worn) (λ p. p);
       lasting = each_stays views id v w at (λ u. AreLasting (state_of (record k.m { rows = rows' }) k.g) u.lasting) (lastings_evolve (state_of k.m k.g) (state_of (record k.m { rows = rows' }) k.g) views moves.0 k.lasting) (λ p. p);
       based = each_stays views id v w at (KnowsBase (state_of (record k.m { rows = rows' }) k.g)) (bases_evolve about words views k (state_of (record k.m { rows = rows' }) k.g) moves.0) (λ p. p);
+      tries = each_stays views id v w at (KnowsTry (state_of (record k.m { rows = rows' }) k.g)) (tries_evolve (state_of k.m k.g) (state_of (record k.m { rows = rows' }) k.g) views moves.0 k.tries) (λ p. p);
+      marked = marks_stay views id v w k.m.rows rows' at k.marked (stamps_same k.m.rows r (with_field Lock n (row k.m.rows r)) (omega arith) refl) refl;
       cut = cut_stays views id v w at k.m.epoch k.cut refl refl;
       acting = each_stays views id v w at ActsAsPass k.acting (λ p. p);
       apart = apart_changed views id v w at k.m.next k.m.rows k.g.linked k.apart (λ u j there. omega (arith, k.drawn.none_zero, term_le (λ y. times 0 y.drawn) views j u there)) r (with_field Lock n (row k.m.rows r))

@@ -34,6 +34,9 @@ use Rattle.snap_steps.proofs.Parts.History.{history_stays}
 use Rattle.snap_steps.proofs.Parts.Bases.{bases_evolve}
 use Rattle.snap_steps.specs.Rule.Bases.{KnowsBase}
 use Rattle.snap_steps.specs.Rule.Worn.{KnowsWorn}
+use Rattle.snap_steps.specs.Rule.Tries.{KnowsTry}
+use Rattle.snap_steps.proofs.Parts.Tries.{tries_evolve}
+use Rattle.snap_steps.specs.Rule.Marks.{AreMarked}
 use Rattle.snap_steps.specs.Rule.Lasting.{AreLasting}
 use Rattle.snap_steps.proofs.Parts.Lasting.{lastings_evolve}
 use Rattle.snap_steps.specs.Rule.Names.{ActsAsPass}
@@ -49,9 +52,9 @@ pub rewriting : (about : About) (words : List ℕ) (views : List View) (k : Kept
     → (let s' : Table = state_of (record k.m { rows = rows' }) (record b { history = k.g.history; writers = k.g.writers }) in Moves (state_of k.m k.g) s' away × DoingOk s' w.doing)
     → ((n : ℕ) (d : Side) → total (λ u. changing n d u.doing) (set views id (with_words v w)) ≡ 0 → b.pending n d ≡ plain)
     → HoldsIts (with_words v w) → ((j : ℕ) (u : View) → j ≢ id → get_elem? views j ≡ some u → (n : ℕ) → Concerns u.doing n → away n)
-    → AreLocked rows' (set views id (with_words v w)) → Each (KnowsRows rows') (set views id (with_words v w)) → AllLinked b.linked w.reached → AreApart k.m.next rows' b.linked (set views id (with_words v w))
+    → AreLocked rows' (set views id (with_words v w)) → Each (KnowsRows rows') (set views id (with_words v w)) → AllLinked b.linked w.reached → AreApart k.m.next rows' b.linked (set views id (with_words v w)) → AreMarked rows' (set views id (with_words v w))
     → Kept about words' (set views id (with_words v w))
-rewriting about words views k id v w at words' rows' b away memory moves pending held clear locked known reached apart =
+rewriting about words views k id v w at words' rows' b away memory moves pending held clear locked known reached apart marked =
     let u : View = with_words v w in
     let g' : Beside = record b { history = k.g.history; writers = k.g.writers } in
     let s : Table = state_of k.m k.g in let s' : Table = state_of (record k.m { rows = rows' }) g' in let ev = moves.0.0 in
@@ -80,6 +83,8 @@ rewriting about words views k id v w at words' rows' b away memory moves pending
       worn = each_stays views id v u at (KnowsWorn s') (worns_evolve s s' views ev k.worn) (λ p. p);
       lasting = each_stays views id v u at (λ u. AreLasting s' u.lasting) (lastings_evolve s s' views ev k.lasting) (λ p. p);
       based = each_stays views id v u at (KnowsBase s') (bases_evolve about words views k s' ev) (λ p. p);
+      tries = each_stays views id v u at (KnowsTry s') (tries_evolve s s' views ev k.tries) (λ p. p);
+      marked = marked;
       cut = cut_stays views id v u at k.m.epoch k.cut refl refl;
       acting = each_stays views id v u at ActsAsPass k.acting (λ p. p);
       apart = apart;

@@ -32,18 +32,24 @@ use Rattle.snap_steps.proofs.Parts.Uses.{used_stays, cut_stays}
 use Rattle.snap_steps.proofs.Parts.History.{whole_grows}
 use Rattle.snap_steps.specs.Rule.Bases.{KnowsBase}
 use Rattle.snap_steps.specs.Rule.Worn.{KnowsWorn}
+use Rattle.snap_steps.specs.Rule.Tries.{KnowsTry}
+use Rattle.snap_steps.proofs.Parts.Marks.{marks_stay}
 use Rattle.snap_steps.specs.Rule.Lasting.{AreLasting}
 
 -- the view v, in what such a step may change, as w is
 abbrev pub with_sight : View → View → View
 with_sight v w = record v { steps = w.steps; seen = w.seen; joined = w.joined; notes = w.notes; handed = w.handed; epochs = w.epochs; worn = w.worn; knows = w.knows; refused = w.refused; lasting = w.lasting; reached = w.reached; reads = w.reads; confirmed = w.confirmed; place = w.place; present = w.present }
 
--- a step that writes no word, after which the pass has seen or knows more
-pub seeing : (about : About) (words : List ℕ) (views : List View) (k : Kept about words views) (i id : ℕ) (v w : View) (at : get_elem? views id ≡ some v)
-    → AreFacts k.m.rows v.holds w.knows → AllLinked k.g.linked w.reached → IsOnWay (state_of k.m k.g) w → KnowsEpoch k.m.epoch (with_sight v w) → KnowsHeader k.m.next k.m.epoch w → KnowsWorn (state_of k.m k.g) w → AreLasting (state_of k.m k.g) w.lasting
-    → Begins v.seen w.seen → Begins w.seen k.g.history → AllBegin w.joined k.g.history → Kept about (set words i (get_or words i 0)) (set views id (with_sight v w))
-seeing about words views k i id v w at knows_rows reached way present notes worn lasting more less joined =
-    let u : View = with_sight v w in record {
+-- and, of its call that never waits, as w is
+abbrev pub with_try : View → View → View
+with_try v w = record (with_sight v w) { tries = w.tries }
+
+-- a step that writes no word, after which the pass has seen or knows more, and has gone on with such a call
+pub trying : (about : About) (words : List ℕ) (views : List View) (k : Kept about words views) (i id : ℕ) (v w : View) (at : get_elem? views id ≡ some v)
+    → AreFacts k.m.rows v.holds w.knows → AllLinked k.g.linked w.reached → IsOnWay (state_of k.m k.g) w → KnowsEpoch k.m.epoch (with_try v w) → KnowsHeader k.m.next k.m.epoch w → KnowsWorn (state_of k.m k.g) w → AreLasting (state_of k.m k.g) w.lasting → KnowsTry (state_of k.m k.g) w
+    → Begins v.seen w.seen → Begins w.seen k.g.history → AllBegin w.joined k.g.history → Kept about (set words i (get_or words i 0)) (set views id (with_try v w))
+trying about words views k i id v w at knows_rows reached way present notes worn lasting tries more less joined =
+    let u : View = with_try v w in record {
       m = k.m;
       g = k.g;
       memory = loaded k.memory i;
@@ -80,5 +86,14 @@ seeing about words views k i id v w at knows_rows reached way present notes worn
       worn = each_stays views id v u at (KnowsWorn (state_of k.m k.g)) k.worn (λ _. worn);
       lasting = each_stays views id v u at (λ x. AreLasting (state_of k.m k.g) x.lasting) k.lasting (λ _. lasting);
       based = each_stays views id v u at (KnowsBase (state_of k.m k.g)) k.based (λ p. p);
+      tries = each_stays views id v u at (KnowsTry (state_of k.m k.g)) k.tries (λ _. tries);
+      marked = marks_stay views id v u k.m.rows k.m.rows at k.marked (λ n. refl) refl;
       apart = apart_stays views id v u at k.m.next k.m.next k.m.rows k.g.linked k.apart (omega arith) (λ p. p) (λ p. p);
     }
+
+-- the same outside such a call
+pub seeing : (about : About) (words : List ℕ) (views : List View) (k : Kept about words views) (i id : ℕ) (v w : View) (at : get_elem? views id ≡ some v)
+    → AreFacts k.m.rows v.holds w.knows → AllLinked k.g.linked w.reached → IsOnWay (state_of k.m k.g) w → KnowsEpoch k.m.epoch (with_sight v w) → KnowsHeader k.m.next k.m.epoch w → KnowsWorn (state_of k.m k.g) w → AreLasting (state_of k.m k.g) w.lasting
+    → Begins v.seen w.seen → Begins w.seen k.g.history → AllBegin w.joined k.g.history → Kept about (set words i (get_or words i 0)) (set views id (with_sight v w))
+seeing about words views k i id v w at knows_rows reached way present notes worn lasting more less joined =
+    trying about words views k i id v (with_sight v w) at knows_rows reached way present notes worn lasting (k.tries id v at) more less joined

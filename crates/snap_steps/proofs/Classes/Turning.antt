@@ -1,5 +1,5 @@
 -- Steps on a pass's turn at the gate, its notes, and the words that count writes.
-use Rattle.std.proofs.Common.{◌≡◌, ℕ, ◌+◌, ◌/◌, ◌≤◌, List, [], set, sym, refl, subst, arith, ◌∷◌, ◌++◌, get_or}
+use Rattle.std.proofs.Common.{◌≡◌, ℕ, ◌+◌, ◌/◌, ◌≤◌, List, [], set, sym, refl, subst, ap, arith, ◌∷◌, ◌++◌, get_or}
 use lib.ListN.{get_elem?}
 use mathlib.Core.Option.{some}
 use Rattle.atomic_table.specs.Table.{State}
@@ -9,7 +9,7 @@ use Rattle.snap_steps.specs.declared.view.View.{View}
 use Rattle.snap_steps.specs.Rule.{Kept}
 use Rattle.snap_steps.specs.declared.rule.About.{About}
 use Rattle.snap_steps.specs.Counting.{total, times}
-use Rattle.snap_steps.specs.Memory.{Memory}
+use Rattle.snap_steps.specs.Memory.{Memory, Row, row}
 use Rattle.snap_steps.specs.Rule.Changes.{changing, HoldsIts}
 use Rattle.snap_steps.specs.Stages.{in_write, owes_count, has_counted}
 use Rattle.snap_steps.specs.Rule.Apart.{AreApart}
@@ -40,6 +40,9 @@ use Rattle.snap_steps.proofs.Parts.Uses.{used_stays, cut_stays}
 use Rattle.snap_steps.proofs.Parts.Bases.{bases_evolve, CutStays}
 use Rattle.snap_steps.specs.Rule.Bases.{KnowsBase}
 use Rattle.snap_steps.specs.Rule.Worn.{KnowsWorn}
+use Rattle.snap_steps.specs.Rule.Tries.{KnowsTry}
+use Rattle.snap_steps.proofs.Parts.Tries.{tries_evolve}
+use Rattle.snap_steps.proofs.Parts.Marks.{marks_stay}
 use Rattle.snap_steps.specs.Rule.Lasting.{AreLasting}
 use Rattle.snap_steps.proofs.Parts.Lasting.{lastings_evolve}
 use Rattle.snap_steps.specs.Rule.Names.{ActsAsPass}
@@ -90,6 +93,8 @@ turning about words views k id v at words' m' notes handed epochs stage uses pre
       worn = each_stays views id v w at (KnowsWorn (state_of m' (record k.g { writers = total (λ u. in_write u.stage) (set views id w) }))) (worns_evolve (state_of k.m k.g) (state_of m' (record k.g { writers = total (λ u. in_write u.stage) (set views id w) })) views moves.0 k.worn) (λ p. p);
       lasting = each_stays views id v w at (λ u. AreLasting (state_of m' (record k.g { writers = total (λ u. in_write u.stage) (set views id w) })) u.lasting) (lastings_evolve (state_of k.m k.g) (state_of m' (record k.g { writers = total (λ u. in_write u.stage) (set views id w) })) views moves.0 k.lasting) (λ p. p);
       based = each_stays views id v w at (KnowsBase (state_of m' (record k.g { writers = total (λ u. in_write u.stage) (set views id w) }))) (bases_evolve about words views k (state_of m' (record k.g { writers = total (λ u. in_write u.stage) (set views id w) })) moves.0) (λ p. (p.0, λ z. let was = cut_stays_so z in let q = p.1 was.0 in (was.1 q.0, q.1)));
+      tries = each_stays views id v w at (KnowsTry (state_of m' (record k.g { writers = total (λ u. in_write u.stage) (set views id w) }))) (tries_evolve (state_of k.m k.g) (state_of m' (record k.g { writers = total (λ u. in_write u.stage) (set views id w) })) views moves.0 k.tries) (λ p. p);
+      marked = marks_stay views id v w k.m.rows m'.rows at k.marked (λ n. ap (λ (l : List Row). (row l n).stamp) rows) refl;
       cut = subst (λ e. e ≡ total all_cuts (set views id w)) (sym epoch) (cut_stays views id v w at k.m.epoch k.cut refl refl);
       acting = each_stays views id v w at ActsAsPass k.acting (λ p z. (acts z, (p z).1));
       apart = subst (λ l. AreApart m'.next l k.g.linked (set views id w)) (sym rows) (apart_stays views id v w at k.m.next m'.next k.m.rows k.g.linked k.apart (omega arith) (λ p. p) (λ p. p));

@@ -48,6 +48,7 @@ use Rattle.snap_steps.proofs.Keeps.Leaf.{no_lock, with_link}
 use Rattle.snap_steps.proofs.Knowing.{facts_elsewhere, facts_left, known_is}
 use Rattle.snap_steps.proofs.Parts.Lasting.{word_is, lasting_is}
 use Rattle.snap_steps.proofs.Parts.Linked.{apart_linked}
+use Rattle.snap_steps.proofs.Parts.Marks.{marks_stay, stamps_same, link_stamp}
 use Rattle.snap_steps.proofs.Parts.Locks.{others_apart, locks_stay}
 use Rattle.snap_steps.proofs.Parts.Worn.{or_cases, last_found}
 use Rattle.snap_steps.proofs.Prefixes.{begins_itself}
@@ -142,7 +143,8 @@ links_copy about slots id me key parent d child copy low writing above older fil
           (each_others s.views id v at w (λ j u ne there. facts_elsewhere k.m.rows parent x u.holds u.holds u.knows (k.known j u there) (others_apart s.views id v at k.m.rows parent k.locked above.held j u ne there) (λ y. omega arith))
           (ap (field f) (row_same k.m.rows parent x near) ∙ field_same f copy (row k.m.rows parent), above.held, facts_left k.m.rows parent f copy v.holds v.knows near known))
           (in_times copy (copy ∷ k.g.linked) (inl refl), all_linked_grows k.g.linked (copy ∷ k.g.linked) (λ r h. inr h) v.reached (k.reached id v at))
-          (apart_linked k id v w at parent copy x is_times filled.own refl refl refl),
+          (apart_linked k id v w at parent copy x is_times filled.own refl refl refl)
+          (marks_stay s.views id v w k.m.rows rows' at k.marked (stamps_same k.m.rows parent x near (link_stamp d copy (row k.m.rows parent))) refl),
       λ key' parent' stamp' d' word way. let q = one_place key key' parent parent' above.stamp stamp' d d' (sym above.place ∙ way) in (λ i. (copied v (q.0 i) (q.1 i) (link_field (q.2 i)) copy, me.1)),
     )
   where

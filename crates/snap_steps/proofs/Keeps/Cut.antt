@@ -1,5 +1,5 @@
 -- The cut of a clone keeps the rule.
-use Rattle.std.proofs.Common.{◌<◌, ◌≤◌, true, false, ◌≡◌, ℕ, ◌+◌, ◌%◌, ◌^◌, List, [], get_or, sym, refl, ap, ◌∙◌, subst, arith, length, length-append, ◌∷◌}
+use Rattle.std.proofs.Common.{◌≤◌, true, false, ◌≡◌, ℕ, ◌+◌, ◌%◌, ◌^◌, List, [], get_or, sym, refl, ap, ◌∙◌, subst, arith, length, length-append, ◌∷◌}
 use lib.ListN.{get_elem?}
 use mathlib.Core.Option.{some}
 use Rattle.atomic_table.specs.Table.{step, keeps, Allows}
@@ -53,6 +53,9 @@ use Rattle.snap_steps.proofs.Parts.Bases.{bases_evolve, tree_of-parts}
 use Rattle.snap_steps.specs.Clones.{ArePlaced, IsCloneOf, parts_of, tree_of}
 use Rattle.snap_steps.specs.Rule.Bases.{IsBase}
 use Rattle.snap_steps.specs.Rule.Worn.{KnowsWorn}
+use Rattle.snap_steps.specs.Rule.Tries.{KnowsTry}
+use Rattle.snap_steps.proofs.Parts.Tries.{tries_evolve}
+use Rattle.snap_steps.proofs.Parts.Marks.{marks_stay}
 use Rattle.snap_steps.specs.Rule.Lasting.{AreLasting}
 use Rattle.snap_steps.proofs.Parts.Lasting.{lastings_evolve}
 use Rattle.snap_steps.proofs.Parts.Worn.{worns_evolve}
@@ -127,6 +130,8 @@ cuts about slots id me gate passing alone closing s k wide at small =
         worn = each_stays views id v w at (KnowsWorn s') (worns_evolve st s' views ev k.worn) (λ p. p);
         lasting = each_stays views id v w at (λ u. AreLasting s' u.lasting) (lastings_evolve st s' views ev k.lasting) (λ p. p);
         based = each_others views id v at w (λ j u ne there. bases_evolve about s.words views k s' ev j u there) (base, λ _. (ap is_quiet stage, top));
+        tries = each_stays views id v w at (KnowsTry s') (tries_evolve st s' views ev k.tries) (λ p. p);
+        marked = marks_stay views id v w k.m.rows k.m.rows at k.marked (λ n. refl) refl;
         cut = omega (arith, k.cut, up, total-set all_cuts views id v w at, length-append v.cuts (length log ∷ []));
         acting = each_stays views id v w at ActsAsPass k.acting (λ _ z. absurd (omega (arith, z, ap is_counted passing)));
         apart = apart_stays views id v w at k.m.next k.m.next k.m.rows k.g.linked k.apart (omega arith) (λ p. p) (λ p. p);

@@ -40,6 +40,8 @@ use Rattle.snap_steps.proofs.Classes.Turning.{Rule, noting}
 use Rattle.snap_steps.specs.Steps.Told.{Sat}
 use Rattle.snap_steps.specs.Rule.Bases.{KnowsBase}
 use Rattle.snap_steps.specs.Rule.Worn.{KnowsWorn}
+use Rattle.snap_steps.specs.Rule.Tries.{KnowsTry}
+use Rattle.snap_steps.proofs.Parts.Marks.{marks_stay}
 use Rattle.snap_steps.specs.Rule.Lasting.{AreLasting}
 use Rattle.snap_steps.specs.Rule.Names.{ActsAsPass}
 
@@ -75,6 +77,8 @@ draws about slots id me found said room passing s k wide at small =
         worn = each_stays s.views id me.0 w at (KnowsWorn (state_of k.m k.g)) k.worn (λ p. p);
         lasting = each_stays s.views id me.0 w at (λ u. AreLasting (state_of k.m k.g) u.lasting) k.lasting (λ p. p);
         based = each_stays s.views id me.0 w at (KnowsBase (state_of k.m k.g)) k.based (λ p. p);
+        tries = each_stays s.views id me.0 w at (KnowsTry (state_of k.m k.g)) k.tries (λ p. p);
+        marked = marks_stay s.views id me.0 w k.m.rows k.m.rows at k.marked (λ n. refl) refl;
         cut = cut_stays s.views id me.0 w at k.m.epoch k.cut refl refl;
         acting = each_stays s.views id me.0 w at ActsAsPass k.acting (λ p. p);
         named = named_stays s.views id me.0 w at about.passes k.named refl refl refl;

@@ -48,6 +48,9 @@ use Rattle.snap_steps.proofs.Parts.Uses.{used_stays, cut_stays}
 use mathlib.Core.Option as maybe
 use Rattle.snap_steps.proofs.Parts.Bases.{bases_evolve}
 use Rattle.snap_steps.specs.Rule.Bases.{KnowsBase}
+use Rattle.snap_steps.specs.Rule.Tries.{KnowsTry}
+use Rattle.snap_steps.proofs.Parts.Tries.{tries_evolve}
+use Rattle.snap_steps.proofs.Parts.Marks.{marks_stay, stamps_same}
 use Rattle.snap_steps.specs.Rule.Worn.{KnowsWorn}
 use Rattle.snap_steps.specs.Rule.Lasting.{AreLasting}
 use Rattle.snap_steps.proofs.Parts.Lasting.{lastings_evolve}
@@ -110,6 +113,8 @@ stores_own about slots id me r new f low no_lock no_stamp mine s k wide at small
         worn = each_stays s.views id v w at (KnowsWorn (state_of (record k.m { rows = changed k.m.rows r f new }) k.g)) (worns_evolve (state_of k.m k.g) (state_of (record k.m { rows = changed k.m.rows r f new }) k.g) s.views moves.0 k.worn) (λ p. p);
         lasting = each_stays s.views id v w at (λ u. AreLasting (state_of (record k.m { rows = changed k.m.rows r f new }) k.g) u.lasting) (lastings_evolve (state_of k.m k.g) (state_of (record k.m { rows = changed k.m.rows r f new }) k.g) s.views moves.0 k.lasting) (λ p. p);
         based = each_stays s.views id v w at (KnowsBase (state_of (record k.m { rows = changed k.m.rows r f new }) k.g)) (bases_evolve about s.words s.views k (state_of (record k.m { rows = changed k.m.rows r f new }) k.g) moves.0) (λ p. p);
+        tries = each_stays s.views id v w at (KnowsTry (state_of (record k.m { rows = changed k.m.rows r f new }) k.g)) (tries_evolve (state_of k.m k.g) (state_of (record k.m { rows = changed k.m.rows r f new }) k.g) s.views moves.0 k.tries) (λ p. p);
+        marked = marks_stay s.views id v w k.m.rows (changed k.m.rows r f new) at k.marked (stamps_same k.m.rows r x near still) refl;
         cut = cut_stays s.views id v w at k.m.epoch k.cut refl refl;
         acting = each_stays s.views id v w at ActsAsPass k.acting (λ p. p);
         apart = record {

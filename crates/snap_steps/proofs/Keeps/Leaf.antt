@@ -51,6 +51,7 @@ use Rattle.snap_steps.proofs.EachView.{none_total, each_others}
 use Rattle.snap_steps.proofs.Parts.Locks.{others_apart, locks_stay}
 use Rattle.snap_steps.proofs.Knowing.{facts_elsewhere, facts_left, known_is}
 use Rattle.snap_steps.proofs.Parts.Linked.{apart_linked}
+use Rattle.snap_steps.proofs.Parts.Marks.{stamps_same, link_stamp}
 use Rattle.snap_steps.proofs.Classes.Entering.{entering, some_write, born_live}
 use Rattle.snap_steps.proofs.Classes.Turning.{Rule}
 use Rattle.snap_steps.specs.Steps.Told.{Sat}
@@ -154,7 +155,8 @@ links_leaf about slots id me r key value parent f low small_key passing writing 
           (locks_stay s.views id v at k.m.rows parent x w k.locked (field_other Lock f r (row k.m.rows parent) (λ z. is_lock (sym z))) near refl refl (sym (ap in_write writing)))
           (each_others s.views id v at w (λ j u ne there. facts_elsewhere k.m.rows parent x u.holds u.holds u.knows (k.known j u there) (others_apart s.views id v at k.m.rows parent k.locked place.held j u ne there) (λ y. omega arith))
           (ap (field f) (row_same k.m.rows parent x near) ∙ field_same f r (row k.m.rows parent), place.held, facts_left k.m.rows parent f r v.holds v.knows near known))
-          (apart_linked k id v w at parent r x is_times leaf.own refl refl refl),
+          (apart_linked k id v w at parent r x is_times leaf.own refl refl refl)
+          (stamps_same k.m.rows parent x near (ap (λ (y : Field). (with_field y r (row k.m.rows parent)).stamp) place.by_side ∙ link_stamp d r (row k.m.rows parent))),
       (k.g.history, record { goes_on = seen.0; legal = legal_more k.g.history e k.history.legal (sym absent); own = sym mine.0 }, refl),
     )
   where

@@ -61,7 +61,7 @@ sets_out about slots id me key passing alone s k wide at small =
     )
 
 -- the word that a reader at this point loads
-abbrev word_of : Memory → ℕ → Field → ℕ
+abbrev pub word_of : Memory → ℕ → Field → ℕ
 word_of m r f = field f (row m.rows r)
 
 module _ (m : Memory) (g : Beside) (ok : TableOk (state_of m g)) (seen : List Entry) (k : ℕ) (begins : Begins seen g.history) where
@@ -109,7 +109,7 @@ module _ (m : Memory) (g : Beside) (ok : TableOk (state_of m g)) (seen : List En
   steps_on (Matched c) r f x h at is = absurd at
 
 -- a link leads to a row that was linked
-bounds : (m : Memory) (g : Beside) → TableOk (state_of m g) → (rows : ℕ) (seen : List Entry) (k : ℕ) (t : Point) (r : ℕ) (f : Field) (x : ℕ) → ((y : ℕ) → In y g.linked → y ≤ rows) → PointOk (state_of m g) seen k t → IsNext t r f → word_of m r f ≡ x → BoundAt rows (On k t) x
+pub bounds : (m : Memory) (g : Beside) → TableOk (state_of m g) → (rows : ℕ) (seen : List Entry) (k : ℕ) (t : Point) (r : ℕ) (f : Field) (x : ℕ) → ((y : ℕ) → In y g.linked → y ≤ rows) → PointOk (state_of m g) seen k t → IsNext t r f → word_of m r f ≡ x → BoundAt rows (On k t) x
 bounds m g ok rows seen k (Standing n v d) r f x low h at is = go (ok.links.links n d h.stamp.reached)
   where
     word : word_of m n (link_field d) ≡ x
@@ -127,7 +127,7 @@ bounds m g ok rows seen k ConfirmedNone r f x low h at is = tt
 bounds m g ok rows seen k (Matched c) r f x low h at is = tt
 
 -- so does a link that a reader found
-comes_in : (m : Memory) (g : Beside) → TableOk (state_of m g) → (seen : List Entry) (k : ℕ) (t : Point) (r : ℕ) (f : Field) (x : ℕ) → PointOk (state_of m g) seen k t → IsNext t r f → word_of m r f ≡ x → AllLinked g.linked (led_by t x)
+pub comes_in : (m : Memory) (g : Beside) → TableOk (state_of m g) → (seen : List Entry) (k : ℕ) (t : Point) (r : ℕ) (f : Field) (x : ℕ) → PointOk (state_of m g) seen k t → IsNext t r f → word_of m r f ≡ x → AllLinked g.linked (led_by t x)
 comes_in m g ok seen k (Standing n v d) r f zero h at is = tt
 comes_in m g ok seen k (Standing n v d) r f (suc c) h at is = (go (ok.links.links n d h.stamp.reached), tt)
   where
@@ -145,7 +145,7 @@ comes_in m g ok seen k (Confirmed c w) r f x h at is = tt
 comes_in m g ok seen k ConfirmedNone r f x h at is = tt
 comes_in m g ok seen k (Matched c) r f x h at is = tt
 
-lasts : (s : Table) (h : List Entry) (k : ℕ) → Begins h s.history → (t : Point) (x : ℕ) → ReadingOk s h (last_point k t x)
+pub lasts : (s : Table) (h : List Entry) (k : ℕ) → Begins h s.history → (t : Point) (x : ℕ) → ReadingOk s h (last_point k t x)
 lasts s h k b (Standing n v d) x = tt
 lasts s h k b (NoLink n v d) x = cond_both (x == v) Resting (On k (Standing 0 0 sides.Right)) (ReadingOk s h) (λ e. tt) (λ e. (way_starts s h k b).at_point)
 lasts s h k b (Linked n v d c) x = tt
@@ -166,13 +166,13 @@ reads_on about slots id me r f key point low passing stands next s k wide at sma
     (w, keeps, tt, seeing about s.words s.views k (word_at r f) id v w at (k.known id v at) reached after (k.present id v at) (k.notes id v at) (k.worn id v at) (k.lasting id v at) (begins_itself v.seen) seen.0 seen.1, (refl, subst (λ y. BoundAt v.rows y found) (sym stands) (bounds k.m k.g k.table v.rows v.seen key point r f found (λ y is_there. let l = k.apart.low y (in_times y k.g.linked is_there) in let a = (k.about_known id v at (ap is_live passing)).0 in let top = k.memory.room in omega (arith, l.1)) way next (sym is))))
 
 -- what the reader's last word tells: a history between what the pass has seen and the whole
-record Answered (v log : List Entry) (k : ℕ) (t : Point) (x : ℕ) : Type 0 where
+pub record Answered (v log : List Entry) (k : ℕ) (t : Point) (x : ℕ) : Type 0 where
   pub moment : List Entry
   pub from : Begins v moment
   pub to : Begins moment log
   pub tells : Answers k t x moment
 
-answers : (m : Memory) (g : Beside) (seen : List Entry) (k : ℕ) (t : Point) (r : ℕ) (f : Field) (x : ℕ) → Begins seen g.history → PointOk (state_of m g) seen k t → IsLast t r f → word_of m r f ≡ x → Answered seen g.history k t x
+pub answers : (m : Memory) (g : Beside) (seen : List Entry) (k : ℕ) (t : Point) (r : ℕ) (f : Field) (x : ℕ) → Begins seen g.history → PointOk (state_of m g) seen k t → IsLast t r f → word_of m r f ≡ x → Answered seen g.history k t x
 answers m g seen k (Standing n v d) r f x b h at is = absurd at
 answers m g seen k (NoLink n v d) r f x b h at is =
     dite (ℕ_discrete x v) (λ e. let a = none_answered (state_of m g) seen k (none_confirmed (state_of m g) seen k n v d (record { begins = b; at_point = h }) ((λ i. word_of m (sym at.0 i) (sym at.1 i)) ∙ is ∙ e)) in

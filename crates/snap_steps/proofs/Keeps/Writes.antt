@@ -44,6 +44,7 @@ use Rattle.snap_steps.specs.Rule.Gate.{IsAt}
 use Rattle.snap_steps.proofs.Parts.Counts.{counted_writes}
 use Rattle.snap_steps.proofs.Parts.Uses.{gate_small, used_moves}
 use Rattle.snap_steps.proofs.Parts.Gate.{gated_moves}
+use Rattle.snap_steps.proofs.Parts.Marks.{stamps_same}
 use mathlib.Core.Option as maybe
 use Rattle.snap_rule.specs.Kinds.Entries as entry_kinds
 use Rattle.snap_rule.specs.TreeChanges as tree_changes
@@ -75,7 +76,8 @@ stores about slots id me r key new low passing writing held reached key_known bo
           (each_others s.views id v at w (λ j u ne there. facts_elsewhere k.m.rows r x u.holds u.holds u.knows (k.known j u there) (others_apart s.views id v at k.m.rows r k.locked held j u ne there) (λ y. omega arith))
           (ap (λ (y : Row). y.value) (row_same k.m.rows r x near), held, facts_left k.m.rows r Value new v.holds v.knows near (k.known id v at)))
           (apart_changed s.views id v w at k.m.next k.m.rows k.g.linked k.apart (λ u j there. omega (arith, k.drawn.none_zero, term_le (λ y. times 0 y.drawn) s.views j u there)) r x
-          (λ y pos z ne. let q = row_other k.m.rows r y x ne in let f = k.apart.fresh y pos z in (ap (λ (o : Row). o.lock) q ∙ f.0, ap (λ (o : Row). o.stamp) q ∙ f.1)) (λ pos. in_times r k.g.linked is_linked) refl refl refl),
+          (λ y pos z ne. let q = row_other k.m.rows r y x ne in let f = k.apart.fresh y pos z in (ap (λ (o : Row). o.lock) q ∙ f.0, ap (λ (o : Row). o.stamp) q ∙ f.1)) (λ pos. in_times r k.g.linked is_linked) refl refl refl)
+          (stamps_same k.m.rows r x near refl),
       λ r' same. let at_row = one_word r r' Value Value same in (
         key,
         (λ y there. sym (known_is k.m.rows v.holds v.knows r Key y (k.known id v at) (subst (λ z. IsKnown v.knows z Key y) (sym at_row.0) there)) ∙ is_key),
@@ -106,7 +108,7 @@ confirms about slots id me r key low passing writing reached key_known value_kno
       entering about s.words s.views k id v at (set s.words (word_at r Value) (get_or s.words (word_at r Value) 0)) k.m.rows e k.g v.own v.wrote v.knows Anywhere (loaded k.memory (word_at r Value)) passing writing refl (sym none_there) moves (λ n d. refl) (λ j u there n c. tt)
           (locked_stays s.views id v w at k.m.rows k.locked refl refl (λ x. omega (arith, k.locked.writing id v at x, ap in_write writing)))
           (each_stays s.views id v w at (KnowsRows k.m.rows) k.known (λ p. p))
-          (apart_stays s.views id v w at k.m.next k.m.next k.m.rows k.g.linked k.apart (omega arith) (λ p. p) (λ p. p)),
+          (apart_stays s.views id v w at k.m.next k.m.next k.m.rows k.g.linked k.apart (omega arith) (λ p. p) (λ p. p)) (λ n. refl),
       (k.g.history, record { goes_on = seen.0; legal = legal_more k.g.history e k.history.legal (sym none_there); own = sym own.0 }, refl),
     )
 

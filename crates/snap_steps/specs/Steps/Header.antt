@@ -21,6 +21,7 @@ handed_after h (notes.Left a) = h
 handed_after h (Done d) = h
 handed_after h (notes.Epoch e) = h
 handed_after h (notes.Birth k b) = h
+handed_after h notes.Trouble = h
 
 abbrev pub epochs_after : ℕ → WordNote → ℕ
 epochs_after h (Next n) = h
@@ -29,6 +30,7 @@ epochs_after h (notes.Left a) = h
 epochs_after h (Done d) = h
 epochs_after h (notes.Epoch e) = max h e
 epochs_after h (notes.Birth k b) = h
+epochs_after h notes.Trouble = h
 
 abbrev pub noted : View → WordNote → View
 noted v n = record v { notes = v.notes ++ n ∷ []; handed = handed_after v.handed n; epochs = epochs_after v.epochs n }
