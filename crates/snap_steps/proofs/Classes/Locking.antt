@@ -70,7 +70,7 @@ locking about words views k id v at r n low holds knows writing are_locked known
       ways = each_stays views id v w at (IsOnWay (state_of (record k.m { rows = rows' }) k.g)) (ways_evolve (state_of k.m k.g) (state_of (record k.m { rows = rows' }) k.g) views moves.0 k.history.seen k.ways) (λ p. p);
       worn = each_stays views id v w at (KnowsWorn (state_of (record k.m { rows = rows' }) k.g)) (worns_evolve (state_of k.m k.g) (state_of (record k.m { rows = rows' }) k.g) views moves.0 k.worn) (λ p. p);
       lasting = each_stays views id v w at (λ u. AreLasting (state_of (record k.m { rows = rows' }) k.g) u.lasting) (lastings_evolve (state_of k.m k.g) (state_of (record k.m { rows = rows' }) k.g) views moves.0 k.lasting) (λ p. p);
-      based = each_stays views id v w at (KnowsBase (state_of (record k.m { rows = rows' }) k.g)) (bases_evolve about words views k (state_of (record k.m { rows = rows' }) k.g) moves.0) (λ p. p);
+      based = each_stays views id v w at (KnowsBase (state_of (record k.m { rows = rows' }) k.g)) (bases_evolve about words views k (state_of (record k.m { rows = rows' }) k.g) moves.0 (λ _. refl)) (λ p. p);
       cut = cut_stays views id v w at k.m.epoch k.cut refl refl;
       acting = each_stays views id v w at ActsAsPass k.acting (λ p. p);
       apart = apart_changed views id v w at k.m.next k.m.rows k.g.linked k.apart (λ u j there. omega (arith, k.drawn.none_zero, term_le (λ y. times 0 y.drawn) views j u there)) r (with_field Lock n (row k.m.rows r))

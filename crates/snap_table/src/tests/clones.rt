@@ -77,8 +77,24 @@ fn a_held_clone_is_released(rt: HostRuntime) -> Result<(), Fail> {
     let mut held = table.hold(&rt, &mut p);
     let mut view = held.view();
     assert!(rt; has_pairs(&mut view, &[(1, 1), (2, 2), (3, 3)]));
+    assert_eq!(rt; held.writes(), 3);
     let mut clone = held.release();
     assert_eq!(rt; table.put(&rt, &mut p, 3, 30), Ok(Some(3)));
+    assert!(rt; has_pairs(&mut clone, &[(1, 1), (2, 2), (3, 3)]));
+    Ok(())
+}
+
+#[test]
+fn a_held_clone_has_what_was_noted(rt: HostRuntime) -> Result<(), Fail> {
+    let (table, mut passes) = SnapTable::open(rt.alloc(), 4, 2)?;
+    let mut q = passes.pop().ok_or("no second pass")?;
+    let mut p = passes.pop().ok_or("no first pass")?;
+    assert_eq!(rt; put_three(&table, &rt, &mut p), Ok(()));
+    let note = table.note(&mut p);
+    let mut held = table.hold(&rt, &mut q);
+    held.learn(note);
+    assert_eq!(rt; held.writes(), 3);
+    let mut clone = held.release();
     assert!(rt; has_pairs(&mut clone, &[(1, 1), (2, 2), (3, 3)]));
     Ok(())
 }
