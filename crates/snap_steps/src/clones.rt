@@ -1,12 +1,13 @@
 //! Clones: the seat of a clone, and what it reads.
-ghost use Rattle.std.specs.Prelude.{◌≡◌, ◌≤◌, ◌+◌};
+ghost use Rattle.std.specs.Prelude.{◌≡◌, ◌≤◌, ◌+◌, length};
+ghost use Rattle.snap_model.specs.History.{Begins};
 ghost use Rattle.snap_rule.specs.Tree.{Stands, root, value_of};
 ghost use Rattle.snap_stamp.specs.declared.layout.Field.{Field};
 ghost use Rattle.snap_steps.specs.Clones.{image, image_of, IsNotedSince, TellsWord, IsLink};
 ghost use Rattle.snap_steps.specs.Copies.{IsCloneAt, clone_of, with_stamp, CopiesRow};
 ghost use Rattle.snap_steps.specs.Seen.{IsOf};
 ghost use Rattle.snap_steps.specs.Stages.{has_cut};
-ghost use Rattle.snap_steps.specs.Steps.Clones.{seat_of, root_loaded, copied, stamp_loaded};
+ghost use Rattle.snap_steps.specs.Steps.Clones.{seat_of, root_loaded, writes_counted, copied, stamp_loaded};
 
 use crate::counter::Steps;
 use crate::fields::index_of;
@@ -61,6 +62,12 @@ impl Play<(), View> for LoadRoot {
     ghost then = { root_loaded };
 }
 
+struct CountWrites;
+
+impl Play<(), View> for CountWrites {
+    ghost then = { writes_counted };
+}
+
 struct CopyWord;
 
 impl Play<(), View> for CopyWord {
@@ -84,6 +91,18 @@ pub fn load_root(rows: &Rows, pass: &mut Pass) -> RowNo
     let word = index_of(RowNo::HOLDER, Field::Right);
     let found = rows.table.shared.load::<LoadRoot>(&mut pass.seat, word);
     RowNo::of(found as u32)
+}
+
+/// How many writes the table has had, as long as the pass that has cut keeps the gate closed. All of them stand in the
+/// clone's history, and so does all that the pass has seen.
+pub fn count_writes(rows: &Rows, pass: &mut Pass) -> u64
+    requires table { IsOf pass.old rows.now }
+    requires cut { has_cut pass.old.view.stage ≡ 1 }
+    ensures writes { result ≡ length pass.old.view.base.history }
+    ensures seen { Begins pass.old.view.seen pass.old.view.base.history }
+    ensures pass { pass.new ≡ pass.old }
+{
+    rows.table.shared.load::<CountWrites>(&mut pass.seat, 3)
 }
 
 /// A seat of the clone that the pass has cut. Both words were loaded since the cut.

@@ -29,7 +29,9 @@ mod writes;
 pub use absences::confirm_absent_below;
 pub use births::{load_birth, note_birth};
 pub use changes::mark_shrinking;
-pub use clones::{RowCopy, ViewSeat, load_root, load_row, load_stamp, split_view, twin};
+pub use clones::{
+    RowCopy, ViewSeat, count_writes, load_root, load_row, load_stamp, split_view, twin,
+};
 pub use copies::{link_copy, load_shared};
 pub use counter::Steps;
 pub use draws::{Full, draw, try_draw};

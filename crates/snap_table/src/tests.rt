@@ -1,6 +1,8 @@
 //! Tables by one thread in turns, and by several at once.
 ghost use Rattle.snap_table.specs.Ready.{IsReadyTo};
 
+mod clones;
+
 use crate::{Full, Pass, SnapTable};
 use std::sync::Wait;
 use std::test::Fail;

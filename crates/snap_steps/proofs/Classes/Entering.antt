@@ -99,7 +99,7 @@ entering about words views k id v at words' rows' e b own wrote knows away memor
       ways = each_set {P = IsOnWay s'} {Q = IsOnWay s'} views id w (ways_evolve (state_of k.m k.g) s' views ev k.history.seen k.ways) (λ u p. p) tt;
       worn = each_stays views id v w at (KnowsWorn s') (worns_evolve (state_of k.m k.g) s' views ev k.worn) (λ p. p);
       lasting = each_stays views id v w at (λ u. AreLasting s' u.lasting) (lastings_evolve (state_of k.m k.g) s' views ev k.lasting) (λ p. p);
-      based = each_stays views id v w at (KnowsBase s') (bases_evolve about words views k s' ev) (λ p. (p.0, λ z. absurd (omega (arith, z))));
+      based = each_stays views id v w at (KnowsBase s') (bases_evolve about words views k s' ev (λ none. absurd (omega (arith, a, none, term_le (λ u. in_write u.stage) views id v at)))) (λ p. (p.0, λ z. absurd (omega (arith, z))));
       tries = each_stays views id v w at (KnowsTry s') (tries_evolve (state_of k.m k.g) s' views ev k.tries) (λ p. p);
       marked = marks_stay views id v w k.m.rows rows' at k.marked stamps refl;
       cut = cut_stays views id v w at k.m.epoch k.cut refl refl;

@@ -73,7 +73,7 @@ locking about words views k id v at r n low holds knows writing are_locked known
       ways = each_stays views id v w at (IsOnWay (state_of (record k.m { rows = rows' }) k.g)) (ways_evolve (state_of k.m k.g) (state_of (record k.m { rows = rows' }) k.g) views moves.0 k.history.seen k.ways) (λ p. p);
       worn = each_stays views id v w at (KnowsWorn (state_of (record k.m { rows = rows' }) k.g)) (worns_evolve (state_of k.m k.g) (state_of (record k.m { rows = rows' }) k.g) views moves.0 k.worn) (λ p. p);
       lasting = each_stays views id v w at (λ u. AreLasting (state_of (record k.m { rows = rows' }) k.g) u.lasting) (lastings_evolve (state_of k.m k.g) (state_of (record k.m { rows = rows' }) k.g) views moves.0 k.lasting) (λ p. p);
-      based = each_stays views id v w at (KnowsBase (state_of (record k.m { rows = rows' }) k.g)) (bases_evolve about words views k (state_of (record k.m { rows = rows' }) k.g) moves.0) (λ p. p);
+      based = each_stays views id v w at (KnowsBase (state_of (record k.m { rows = rows' }) k.g)) (bases_evolve about words views k (state_of (record k.m { rows = rows' }) k.g) moves.0 (λ _. refl)) (λ p. p);
       tries = each_stays views id v w at (KnowsTry (state_of (record k.m { rows = rows' }) k.g)) (tries_evolve (state_of k.m k.g) (state_of (record k.m { rows = rows' }) k.g) views moves.0 k.tries) (λ p. p);
       marked = marks_stay views id v w k.m.rows rows' at k.marked (stamps_same k.m.rows r (with_field Lock n (row k.m.rows r)) (omega arith) refl) refl;
       cut = cut_stays views id v w at k.m.epoch k.cut refl refl;

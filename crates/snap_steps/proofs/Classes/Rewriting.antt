@@ -82,7 +82,7 @@ rewriting about words views k id v w at words' rows' b away memory moves pending
       ways = each_stays views id v u at (IsOnWay s') (ways_evolve s s' views ev k.history.seen k.ways) (λ p. p);
       worn = each_stays views id v u at (KnowsWorn s') (worns_evolve s s' views ev k.worn) (λ p. p);
       lasting = each_stays views id v u at (λ u. AreLasting s' u.lasting) (lastings_evolve s s' views ev k.lasting) (λ p. p);
-      based = each_stays views id v u at (KnowsBase s') (bases_evolve about words views k s' ev) (λ p. p);
+      based = each_stays views id v u at (KnowsBase s') (bases_evolve about words views k s' ev (λ _. refl)) (λ p. p);
       tries = each_stays views id v u at (KnowsTry s') (tries_evolve s s' views ev k.tries) (λ p. p);
       marked = marked;
       cut = cut_stays views id v u at k.m.epoch k.cut refl refl;

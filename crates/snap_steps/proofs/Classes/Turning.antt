@@ -92,7 +92,7 @@ turning about words views k id v at words' m' notes handed epochs stage uses pre
       ways = each_stays views id v w at (IsOnWay (state_of m' (record k.g { writers = total (λ u. in_write u.stage) (set views id w) }))) (ways_evolve (state_of k.m k.g) (state_of m' (record k.g { writers = total (λ u. in_write u.stage) (set views id w) })) views moves.0 k.history.seen k.ways) (λ p. p);
       worn = each_stays views id v w at (KnowsWorn (state_of m' (record k.g { writers = total (λ u. in_write u.stage) (set views id w) }))) (worns_evolve (state_of k.m k.g) (state_of m' (record k.g { writers = total (λ u. in_write u.stage) (set views id w) })) views moves.0 k.worn) (λ p. p);
       lasting = each_stays views id v w at (λ u. AreLasting (state_of m' (record k.g { writers = total (λ u. in_write u.stage) (set views id w) })) u.lasting) (lastings_evolve (state_of k.m k.g) (state_of m' (record k.g { writers = total (λ u. in_write u.stage) (set views id w) })) views moves.0 k.lasting) (λ p. p);
-      based = each_stays views id v w at (KnowsBase (state_of m' (record k.g { writers = total (λ u. in_write u.stage) (set views id w) }))) (bases_evolve about words views k (state_of m' (record k.g { writers = total (λ u. in_write u.stage) (set views id w) })) moves.0) (λ p. (p.0, λ z. let was = cut_stays_so z in let q = p.1 was.0 in (was.1 q.0, q.1)));
+      based = each_stays views id v w at (KnowsBase (state_of m' (record k.g { writers = total (λ u. in_write u.stage) (set views id w) }))) (bases_evolve about words views k (state_of m' (record k.g { writers = total (λ u. in_write u.stage) (set views id w) })) moves.0 (λ _. refl)) (λ p. (p.0, λ z. let was = cut_stays_so z in let q = p.1 was.0 in (was.1 q.0, q.1, q.2)));
       tries = each_stays views id v w at (KnowsTry (state_of m' (record k.g { writers = total (λ u. in_write u.stage) (set views id w) }))) (tries_evolve (state_of k.m k.g) (state_of m' (record k.g { writers = total (λ u. in_write u.stage) (set views id w) })) views moves.0 k.tries) (λ p. p);
       marked = marks_stay views id v w k.m.rows m'.rows at k.marked (λ n. ap (λ (l : List Row). (row l n).stamp) rows) refl;
       cut = subst (λ e. e ≡ total all_cuts (set views id w)) (sym epoch) (cut_stays views id v w at k.m.epoch k.cut refl refl);

@@ -1,8 +1,9 @@
 -- Seats of clones and their loads keep the rule.
-use Rattle.std.proofs.Common.{◌≡◌, ◌≤◌, ◌∙◌, ◌⊎◌, ℕ, List, [], ◌∷◌, ◌++◌, inl, inr, get_or, sym, refl, ap, subst, arith, ⊎_elim}
+use Rattle.std.proofs.Common.{◌≡◌, ◌≤◌, ◌∙◌, ◌⊎◌, ℕ, List, [], ◌∷◌, ◌++◌, inl, inr, get_or, sym, refl, ap, subst, arith, ⊎_elim, length}
 use mathlib.Core.Option.{none}
 use Rattle.atomic_table.proofs.Lists.{set_again}
 use Rattle.atomic_table.specs.Table.{Splits, step, keeps, Allows}
+use Rattle.snap_model.specs.History.{Begins}
 use Rattle.snap_rule.specs.State.{State as Table, Beside, In, Reads, IsShared}
 use Rattle.snap_rule.specs.Tree.{Tree, Node, EachRow}
 use Rattle.snap_rule.specs.Tree.Tree.{empty, node}
@@ -12,25 +13,31 @@ use Rattle.snap_stamp.specs.declared.layout.Field.TheVariants.{Key, Birth, Stamp
 use Rattle.snap_stamp.specs.declared.side.Side.{Side}
 use Rattle.snap_stamp.specs.declared.side.Side.TheVariants as sides
 use Rattle.snap_steps.specs.Clones.{image_of, IsWithin, NodeHas, FitsLink, TellsWord}
+use Rattle.snap_steps.specs.Counting.{total}
 use Rattle.snap_steps.specs.Memory.{Memory, field, row}
 use Rattle.snap_steps.specs.Roles.{is_live}
 use Rattle.snap_steps.specs.Rule.{Kept}
 use Rattle.snap_steps.specs.Rule.Worn.{KnowsWorn}
-use Rattle.snap_steps.specs.Stages.{has_cut}
+use Rattle.snap_steps.specs.Stages.{has_cut, in_write, is_quiet, owes_count}
 use Rattle.snap_steps.specs.States.{link_field, state_of}
 use Rattle.snap_steps.specs.declared.view.Role.TheVariants.{Passing}
-use Rattle.snap_steps.specs.Steps.Clones.{seat_of, root_loaded, copied, stamp_noted, stamp_loaded}
+use Rattle.snap_steps.specs.Steps.Clones.{seat_of, root_loaded, writes_counted, copied, stamp_noted, stamp_loaded}
 use Rattle.snap_steps.specs.Steps.Fields.{is_last}
 use Rattle.snap_steps.specs.Steps.Told.{Sat}
 use Rattle.snap_steps.specs.declared.rule.About.{About}
+use Rattle.snap_steps.specs.declared.view.Stage.{Stage}
+use Rattle.snap_steps.specs.declared.view.Stage.TheVariants.{Idle, Writing, Closing}
 use Rattle.snap_steps.specs.declared.view.View.{View}
 use Rattle.snap_steps.proofs.Cells.{cell_is, one_word}
 use Rattle.snap_steps.proofs.Classes.Adding.{clone_more}
 use Rattle.snap_steps.proofs.Classes.Seeing.{seeing}
 use Rattle.snap_steps.proofs.Classes.Turning.{Rule}
+use Rattle.snap_steps.proofs.EachView.{none_total}
+use Rattle.snap_steps.proofs.Memories.{done_is}
 use Rattle.snap_steps.proofs.Parts.Worn.{last_found, or_cases}
 use Rattle.snap_steps.proofs.Prefixes.{begins_itself}
 use Rattle.snap_steps.proofs.Tables.{in_times}
+use Rattle.snap_steps.proofs.Totals.{term_le}
 
 -- `split_view` and `twin`
 pub seats_kept : (about : About) (id : ℕ) (v : View) → is_live v.role ≡ 1 → Splits (Rule about) id v v (seat_of v)
@@ -74,6 +81,12 @@ module _ (m : Memory) (g : Beside) (rows : ℕ) (n : Node) (a b : Tree) where
   fits links low Right = ⊎_elim (λ (z : word Right ≡ 0). omega (arith, z)) (low (word Right)) (links sides.Right)
   fits links low Value = tt
 
+-- who is in no write owes no count
+none_owes : (st : Stage) → in_write st ≡ 0 → owes_count st ≡ 0
+none_owes Idle z = refl
+none_owes (Writing made counted) z = absurd (omega (arith, z))
+none_owes (Closing gate quiet cut) z = refl
+
 module _ (about : About) (slots id : ℕ) (me : Sat) where
   low_row : (words : List ℕ) (views : List View) (k : Kept about words views) (y : ℕ) → In y k.g.linked → y ≤ about.rows
   low_row words views k y is = let l = k.apart.low y (in_times y k.g.linked is) in let room = k.memory.room in omega (arith, l.1)
@@ -89,6 +102,20 @@ module _ (about : About) (slots id : ℕ) (me : Sat) where
         tt,
         seeing about s.words s.views k (word_at 0 Right) id v v at (k.known id v at) (k.reached id v at) (k.ways id v at) (k.present id v at) (k.notes id v at) (k.worn id v at) (k.lasting id v at) (begins_itself v.seen) seen.0 seen.1,
         (refl, is ∙ still.1, omega (arith, is, laid, low)),
+      )
+
+  -- `count_writes`
+  pub counts_writes : me.0.role ≡ Passing → has_cut me.0.stage ≡ 1 → Allows (Rule about) slots id me 3 (λ n. n) (writes_counted (step slots 3 0 0 none) me)
+  counts_writes passing cut s k wide at small =
+      let v : View = me.0 in let found : ℕ = get_or s.words 3 0 in let is : found ≡ k.m.done = done_is k.memory in
+      let seen = k.history.seen id v at in let still = (k.based id v at).1 cut in
+      let idle : total (λ u. in_write u.stage) s.views ≡ 0 = k.gated.quiet (omega (arith, still.0, term_le (λ u. is_quiet u.stage) s.views id v at)) in
+      let none_owe : total (λ u. owes_count u.stage) s.views ≡ 0 = none_total (λ u. owes_count u.stage) s.views (λ j u there. none_owes u.stage (omega (arith, idle, term_le (λ y. in_write y.stage) s.views j u there))) in (
+        v,
+        keeps,
+        tt,
+        seeing about s.words s.views k 3 id v v at (k.known id v at) (k.reached id v at) (k.ways id v at) (k.present id v at) (k.notes id v at) (k.worn id v at) (k.lasting id v at) (begins_itself v.seen) seen.0 seen.1,
+        (refl, refl, omega (arith, is, k.counted.all, none_owe, ap length still.2), subst (Begins v.seen) still.2 seen.0),
       )
 
   -- a load of a word of the clone

@@ -129,7 +129,7 @@ cuts about slots id me gate passing alone closing s k wide at small =
         ways = each_set {P = IsOnWay s'} {Q = IsOnWay s'} views id w (ways_evolve st s' views ev k.history.seen k.ways) (λ u p. p) tt;
         worn = each_stays views id v w at (KnowsWorn s') (worns_evolve st s' views ev k.worn) (λ p. p);
         lasting = each_stays views id v w at (λ u. AreLasting s' u.lasting) (lastings_evolve st s' views ev k.lasting) (λ p. p);
-        based = each_others views id v at w (λ j u ne there. bases_evolve about s.words views k s' ev j u there) (base, λ _. (ap is_quiet stage, top));
+        based = each_others views id v at w (λ j u ne there. bases_evolve about s.words views k s' ev (λ _. refl) j u there) (base, λ _. (ap is_quiet stage, top, refl));
         tries = each_stays views id v w at (KnowsTry s') (tries_evolve st s' views ev k.tries) (λ p. p);
         marked = marks_stay views id v w k.m.rows k.m.rows at k.marked (λ n. refl) refl;
         cut = omega (arith, k.cut, up, total-set all_cuts views id v w at, length-append v.cuts (length log ∷ []));

@@ -112,7 +112,7 @@ stores_own about slots id me r new f low no_lock no_stamp mine s k wide at small
         ways = each_stays s.views id v w at (IsOnWay (state_of (record k.m { rows = changed k.m.rows r f new }) k.g)) (ways_evolve (state_of k.m k.g) (state_of (record k.m { rows = changed k.m.rows r f new }) k.g) s.views moves.0 k.history.seen k.ways) (λ p. p);
         worn = each_stays s.views id v w at (KnowsWorn (state_of (record k.m { rows = changed k.m.rows r f new }) k.g)) (worns_evolve (state_of k.m k.g) (state_of (record k.m { rows = changed k.m.rows r f new }) k.g) s.views moves.0 k.worn) (λ p. p);
         lasting = each_stays s.views id v w at (λ u. AreLasting (state_of (record k.m { rows = changed k.m.rows r f new }) k.g) u.lasting) (lastings_evolve (state_of k.m k.g) (state_of (record k.m { rows = changed k.m.rows r f new }) k.g) s.views moves.0 k.lasting) (λ p. p);
-        based = each_stays s.views id v w at (KnowsBase (state_of (record k.m { rows = changed k.m.rows r f new }) k.g)) (bases_evolve about s.words s.views k (state_of (record k.m { rows = changed k.m.rows r f new }) k.g) moves.0) (λ p. p);
+        based = each_stays s.views id v w at (KnowsBase (state_of (record k.m { rows = changed k.m.rows r f new }) k.g)) (bases_evolve about s.words s.views k (state_of (record k.m { rows = changed k.m.rows r f new }) k.g) moves.0 (λ _. refl)) (λ p. p);
         tries = each_stays s.views id v w at (KnowsTry (state_of (record k.m { rows = changed k.m.rows r f new }) k.g)) (tries_evolve (state_of k.m k.g) (state_of (record k.m { rows = changed k.m.rows r f new }) k.g) s.views moves.0 k.tries) (λ p. p);
         marked = marks_stay s.views id v w k.m.rows (changed k.m.rows r f new) at k.marked (stamps_same k.m.rows r x near still) refl;
         cut = cut_stays s.views id v w at k.m.epoch k.cut refl refl;

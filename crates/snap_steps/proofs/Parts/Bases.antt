@@ -13,7 +13,7 @@ use Rattle.snap_steps.specs.Each.{Each}
 use Rattle.snap_steps.specs.Roles.{no_base}
 use Rattle.snap_steps.specs.Rule.{Kept}
 use Rattle.snap_steps.specs.Rule.Bases.{IsBase, KnowsBase}
-use Rattle.snap_steps.specs.Stages.{has_cut, is_quiet, after_left}
+use Rattle.snap_steps.specs.Stages.{has_cut, in_write, is_quiet, after_left}
 use Rattle.snap_steps.specs.States.{state_of}
 use Rattle.snap_steps.specs.declared.rule.About.{About}
 use Rattle.snap_steps.specs.declared.view.Base.{Base}
@@ -48,12 +48,13 @@ begins_on xs ys zs a b = subst (Begins xs) b.is (begins_more xs ys b.rest a)
 pub base_evolves : (s s' : Table) → Evolves s s' → (b : Base) → IsBase s b → IsBase s' b
 base_evolves s s' ev b h = let t : Tree = tree_of b.parts in record { begins = begins_on b.history s.history s'.history h.begins ev.history; image = image_kept s s' ev (root t) t h.image; clone = h.clone }
 
-pub bases_evolve : (about : About) (words : List ℕ) (views : List View) (k : Kept about words views) (s' : Table) → Evolves (state_of k.m k.g) s' → Each (KnowsBase s') views
-bases_evolve about words views k s' ev j u at =
+-- no entry is made where no pass is in a write
+pub bases_evolve : (about : About) (words : List ℕ) (views : List View) (k : Kept about words views) (s' : Table) → Evolves (state_of k.m k.g) s' → (total (λ v. in_write v.stage) views ≡ 0 → s'.history ≡ k.g.history) → Each (KnowsBase s') views
+bases_evolve about words views k s' ev still j u at =
     let s : Table = state_of k.m k.g in let p = k.based j u at in (
       base_evolves s s' ev u.base p.0,
       λ cut. let q = p.1 cut in let some : 0 < total (λ v. is_quiet v.stage) views = omega (arith, q.0, term_le (λ v. is_quiet v.stage) views j u at) in
-          (q.0, (ev.quiet (k.writers ∙ k.gated.quiet some) 0 (inl refl)).0.link Right ∙ q.1),
+          (q.0, (ev.quiet (k.writers ∙ k.gated.quiet some) 0 (inl refl)).0.link Right ∙ q.1, still (k.gated.quiet some) ∙ q.2),
     )
 
 -- the cut of a closing stays, and nothing else is taken for one

@@ -16,9 +16,9 @@ pub record IsBase (s : Table) (base : Base) : Type 0 where
   pub image : IsImage s (root (tree_of base.parts)) (tree_of base.parts)
   pub clone : IsCloneOf base.history (tree_of base.parts)
 
--- once a closing pass has cut, no write is in progress, and the table's root is still the clone's
+-- once a closing pass has cut, no write is in progress, the table's root is still the clone's, and its history is still the clone's
 abbrev pub StandsStill : Table → Stage → Base → Type 0
-StandsStill s stage base = has_cut stage ≡ 1 → (is_quiet stage ≡ 1) × (s.link 0 Right ≡ root (tree_of base.parts))
+StandsStill s stage base = has_cut stage ≡ 1 → (is_quiet stage ≡ 1) × (s.link 0 Right ≡ root (tree_of base.parts)) × (s.history ≡ base.history)
 
 abbrev pub KnowsBase : Table → View → Type 0
 KnowsBase s v = IsBase s v.base × StandsStill s v.stage v.base

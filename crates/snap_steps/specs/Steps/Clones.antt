@@ -1,11 +1,13 @@
 -- A clone's seat: how it comes to be, and its loads.
-use Rattle.std.specs.Prelude.{◌≡◌, ◌≤◌, ℕ, ◌||◌, []}
+use Rattle.std.specs.Prelude.{◌≡◌, ◌≤◌, ℕ, ◌||◌, [], length}
 use Rattle.atomic_table.specs.Table.{Step}
+use Rattle.snap_model.specs.History.{Begins}
 use Rattle.snap_rule.specs.Tree.{root}
 use Rattle.snap_stamp.specs.Layout.{word_at}
 use Rattle.snap_stamp.specs.declared.layout.Field.{Field}
 use Rattle.snap_stamp.specs.declared.layout.Field.TheVariants.{Stamp}
 use Rattle.snap_steps.specs.Clones.{image_of, TellsWord}
+use Rattle.snap_steps.specs.Memory.{done_at}
 use Rattle.snap_steps.specs.Roles.{silent}
 use Rattle.snap_steps.specs.Steps.Fields.{is_last}
 use Rattle.snap_steps.specs.Steps.Told.{Sat, Has}
@@ -25,6 +27,10 @@ pub record IsSeatOfClone (me : Sat) (top : ℕ) : Type 0 where
 -- the root of the clone that was cut
 abbrev pub root_loaded : Step (Unit {0}) → Sat → ℕ → Sat → Type 0
 root_loaded st m r n = Has m n m.0 × (r ≡ root (image_of m.0)) × (r ≤ m.0.rows)
+
+-- how many writes were counted: those of the history of the clone that was cut, which goes on from what the pass has seen
+abbrev pub writes_counted : Step (Unit {0}) → Sat → ℕ → Sat → Type 0
+writes_counted st m r n = (st.word ≡ done_at) × Has m n m.0 × (r ≡ length m.0.base.history) × Begins m.0.seen m.0.base.history
 
 -- a word of a row of the clone
 abbrev pub copied : Step (Unit {0}) → Sat → ℕ → Sat → Type 0
