@@ -1,5 +1,5 @@
 -- How a run ends, by what was found on the way.
-use Rattle.std.specs.Prelude.{◌||◌, bytes_eq, fold, slice_index_or, unwrap_or, IsErr, ⊤}
+use Rattle.std.specs.Prelude.{◌||◌, bytes_eq, fold, unwrap_or, IsErr, ⊤}
 use Rattle.std.proofs.Common.{◌≡◌, ◌⊎◌, ℕ, Bool, true, false, List, [], ◌∷◌, Option, Some, None, Result, Ok, Err, refl, sym, ◌∙◌, ap, subst, inl, inr, arith}
 use Rattle.snap_io.specs.Shelves.{Files, IfTold}
 use Rattle.snap_text.specs.declared.fault.ScriptFault.{ScriptFault}
@@ -14,28 +14,20 @@ use Rattle.snaptable.specs.declared.words.Work.{Work}
 use Rattle.snaptable.specs.declared.words.Work.TheVariants.{Made, Scripts}
 use Rattle.snaptable.specs.declared.words.WordsFault.{WordsFault}
 use Rattle.snaptable.specs.declared.words.WordsFault.TheVariants as words
-use Rattle.snaptable.specs.Words.{job_of, one_script, script_name}
+use Rattle.snaptable.specs.Words.{first_script, job_of}
 use Rattle.snaptable.specs.Needs.{among, commands_of, loads_named, passed_in}
 use Rattle.snaptable.specs.Stops.{status_of, stop_of_words}
 use Rattle.snaptable.specs.Replies.{Plan, reply_name}
 use Rattle.snaptable.specs.Inputs.{IsLimitStop, IsPastWords, StopsBy, and_then, lines_in, lines_of, loads_in, or_passed, or_refused, unless_missing, with_load, with_pairs, within_limits, first_missing, loads_there}
 use Rattle.snaptable.specs.Printed.{stop_text}
-use Rattle.snaptable.specs.Outcomes.{HasStatus, IsBrokenOff, IsOfWords, IsRefusedBy, IsStop, IsStopped, StopsFor, Tells, ending_of, ending_of_job, ending_of_lines, inputs_of, inputs_with, plan_of, replies_of}
+use Rattle.snaptable.specs.Outcomes.{HasStatus, IsBrokenOff, IsOfWords, IsRefusedBy, IsStop, IsStopped, StopsFor, Tells, ending_of, ending_of_job, ending_of_lines, ending_of_script, ending_of_work, inputs_of, inputs_of_job, inputs_of_script, inputs_of_work, inputs_with, plan_of, replies_of, replies_of_job, replies_of_work}
 use Rattle.snap_text.specs.Loads.{load_of}
 use Rattle.snaptable.proofs.Gathered.{Lifts, Told, memory_stops}
-
--- the script that a job names first
-abbrev named_in : Work → List ℕ
-named_in (Scripts names) = slice_index_or names 0 []
-named_in (Made commands seed workers) = []
-
-pub one_name : (a b : List ℕ) → one_script a ≡ one_script b → a ≡ b
-one_name a b is = ap (λ (job : Job). named_in job.work) is
 
 -- refused words end the run, whatever the files are
 pub words_end : (ws : List (List ℕ)) (f : Files) (fault : WordsFault) → job_of ws ≡ Err fault → ending_of ws f ≡ Err (stop.Words fault)
 unfolding ending_of
-words_end ws f fault is = ap (λ job. ending_of_job job (script_name ws) f) is
+words_end ws f fault is = ap (λ job. ending_of_job job f) is
 
 pub words_stop : (ws : List (List ℕ)) (files : Option Files) (names : Files → List (List ℕ)) (rose : Type 0) (fault : WordsFault) → (fault ≡ words.Memory) ⊎ (job_of ws ≡ Err fault) → StopsBy files (ending_of ws) names rose (stop_of_words fault)
 words_stop ws files names rose words.Memory why = memory_stops files (ending_of ws) names rose
@@ -73,19 +65,29 @@ refused_by ws words.NotYet (inr is) = is
 refused_by ws words.Name (inl is) = absurd cc
 refused_by ws words.Name (inr is) = is
 
--- accepted words: the run ends by its script, the limits and the load files
-by_script : (ws : List (List ℕ)) (f : Files) (job : Job) → job_of ws ≡ Ok job → ending_of ws f ≡ and_then (lines_in f (script_name ws)) (ending_of_lines (script_name ws) f)
+-- accepted words: the run ends as their job does
+pub planned_by : (ws : List (List ℕ)) (files : Option Files) (job : Job) (plan : Plan) → job_of ws ≡ Ok job → IfTold files (λ f. ending_of_work job.work f ≡ Ok plan) → IfTold files (λ f. ending_of ws f ≡ Ok plan)
 unfolding ending_of
-by_script ws f job is = ap (λ job. ending_of_job job (script_name ws) f) is
+planned_by ws None job plan is planned = tt
+planned_by ws (Some f) job plan is planned = ap (λ r. ending_of_job r f) is ∙ planned
 
-by_lines : (ws : List (List ℕ)) (f : Files) (job : Job) (lines : List Line) → job_of ws ≡ Ok job → lines_in f (script_name ws) ≡ Ok lines → ending_of ws f ≡ ending_of_lines (script_name ws) f lines
-by_lines ws f job lines is read = by_script ws f job is ∙ ap (λ r. and_then r (ending_of_lines (script_name ws) f)) read
+pub stopped_by : (ws : List (List ℕ)) (files : Option Files) (job : Job) (rose : Type 0) (s : Stop) → job_of ws ≡ Ok job → StopsBy files (ending_of_work job.work) (inputs_of_work job.work) rose s → StopsBy files (ending_of ws) (inputs_of ws) rose s
+unfolding ending_of inputs_of
+stopped_by ws files job rose s is stops = subst (λ r. StopsBy files (ending_of_job r) (inputs_of_job r) rose s) (sym is) stops
 
-by_loads : (ws : List (List ℕ)) (f : Files) (job : Job) (lines : List Line) → job_of ws ≡ Ok job → lines_in f (script_name ws) ≡ Ok lines → passed_in (replies_of ws) lines ≡ None
-    → ending_of ws f ≡ and_then (loads_in f (loads_named (commands_of lines))) (λ loads. Ok (plan_of lines loads))
-by_loads ws f job lines is read none =
-    by_lines ws f job lines is read
-    ∙ ap (λ o. and_then (or_passed (script_name ws) lines o) (λ kept. and_then (loads_in f (loads_named (commands_of kept))) (λ loads. Ok (plan_of kept loads)))) none
+pub replies_by : (ws : List (List ℕ)) (job : Job) → job_of ws ≡ Ok job → replies_of ws ≡ replies_of_work job.work
+unfolding replies_of
+replies_by ws job is = ap replies_of_job is
+
+-- a script from a file: the run ends by the limits and the load files
+by_lines : (name : List ℕ) (f : Files) (lines : List Line) → lines_in f name ≡ Ok lines → ending_of_script name f ≡ ending_of_lines name f lines
+by_lines name f lines read = ap (λ r. and_then r (ending_of_lines name f)) read
+
+by_limit : (name : List ℕ) (f : Files) (lines : List Line) (o : Option Passed) → lines_in f name ≡ Ok lines → passed_in (reply_name name) lines ≡ o
+    → ending_of_script name f ≡ and_then (or_passed name lines o) (λ kept. and_then (loads_in f (loads_named (commands_of kept))) (λ loads. Ok (plan_of kept loads)))
+by_limit name f lines o read is =
+    by_lines name f lines read
+    ∙ ap (λ o. and_then (or_passed name lines o) (λ kept. and_then (loads_in f (loads_named (commands_of kept))) (λ loads. Ok (plan_of kept loads)))) is
 
 among_first : (name file : List ℕ) (names : List (List ℕ)) → among (name ∷ []) file ≡ true → among (name ∷ names) file ≡ true
 among_first name file names is = either (bytes_eq name file) is
@@ -94,57 +96,52 @@ among_first name file names is = either (bytes_eq name file) is
     either true is = refl
     either false is = absurd cc
 
-among_inputs : (ws : List (List ℕ)) (f : Files) (file : List ℕ) → among (script_name ws ∷ []) file ≡ true → among (inputs_of ws f) file ≡ true
-unfolding inputs_of
-among_inputs ws f file there = of_lines (lines_in f (script_name ws))
+among_inputs : (name : List ℕ) (f : Files) (file : List ℕ) → among (name ∷ []) file ≡ true → among (inputs_of_script name f) file ≡ true
+among_inputs name f file there = of_lines (lines_in f name)
   where
-    of_lines : (r : Result (List Line) Stop) → among (inputs_with (script_name ws) r) file ≡ true
-    of_lines (Ok lines) = among_first (script_name ws) file (loads_named (commands_of lines)) there
+    of_lines : (r : Result (List Line) Stop) → among (inputs_with name r) file ≡ true
+    of_lines (Ok lines) = among_first name file (loads_named (commands_of lines)) there
     of_lines (Err s) = there
 
-pub script_lifts : (ws : List (List ℕ)) (files : Option Files) (job : Job) (name : List ℕ) → job_of ws ≡ Ok job → name ≡ script_name ws → IfTold files (λ f. Lifts (lines_in f name) (ending_of ws f) (name ∷ []) (inputs_of ws f))
-script_lifts ws None job name is named = tt
-script_lifts ws (Some f) job name is named = (
-  λ s stopped. by_script ws f job is ∙ ap (λ r. and_then r (ending_of_lines (script_name ws) f)) (ap (lines_in f) (sym named) ∙ stopped),
-  λ file there. among_inputs ws f file (ap (λ n. among (n ∷ []) file) (sym named) ∙ there),
+pub script_lifts : (name : List ℕ) (files : Option Files) → IfTold files (λ f. Lifts (lines_in f name) (ending_of_script name f) (name ∷ []) (inputs_of_script name f))
+script_lifts name None = tt
+script_lifts name (Some f) = (
+  λ s stopped. ap (λ r. and_then r (ending_of_lines name f)) stopped,
+  λ file there. among_inputs name f file there,
 )
 
-pub limit_stop : (ws : List (List ℕ)) (files : Option Files) (job : Job) (lines : List Line) (name : List ℕ) (names : Files → List (List ℕ)) (rose : Type 0) (s : Stop)
-    → job_of ws ≡ Ok job → name ≡ script_name ws → IfTold files (λ f. lines_in f name ≡ Ok lines) → IsLimitStop name (passed_in (reply_name name) lines) s → StopsBy files (ending_of ws) names rose s
-limit_stop ws files job lines name names rose stop.Memory is named read limit = memory_stops files (ending_of ws) names rose
-limit_stop ws None job lines name names rose (stop.Limit script passed) is named read limit = tt
-limit_stop ws (Some f) job lines name names rose (stop.Limit script passed) is named read limit =
-    by_lines ws f job lines is (ap (lines_in f) (sym named) ∙ read)
-    ∙ ap (λ o. and_then (or_passed (script_name ws) lines o) (λ kept. and_then (loads_in f (loads_named (commands_of kept))) (λ loads. Ok (plan_of kept loads))))
-    (ap (λ n. passed_in (reply_name n) lines) (sym named) ∙ limit.1)
-    ∙ ap (λ n. Err (stop.Limit n passed)) (sym named ∙ sym limit.0)
-limit_stop ws files job lines name names rose (stop.Read file) is named read limit = absurd limit
-limit_stop ws files job lines name names rose (stop.Write file) is named read limit = absurd limit
-limit_stop ws files job lines name names rose stop.Print is named read limit = absurd limit
-limit_stop ws files job lines name names rose (stop.Words fault) is named read limit = absurd limit
-limit_stop ws files job lines name names rose (stop.Script script fault) is named read limit = absurd limit
-limit_stop ws files job lines name names rose (stop.Load file fault) is named read limit = absurd limit
+pub limit_stop : (name : List ℕ) (files : Option Files) (lines : List Line) (names : Files → List (List ℕ)) (rose : Type 0) (s : Stop)
+    → IfTold files (λ f. lines_in f name ≡ Ok lines) → IsLimitStop name (passed_in (reply_name name) lines) s → StopsBy files (ending_of_script name) names rose s
+limit_stop name files lines names rose stop.Memory read limit = memory_stops files (ending_of_script name) names rose
+limit_stop name None lines names rose (stop.Limit script passed) read limit = tt
+limit_stop name (Some f) lines names rose (stop.Limit script passed) read limit =
+    by_limit name f lines (Some passed) read limit.1 ∙ ap (λ n. Err (stop.Limit n passed)) (sym limit.0)
+limit_stop name files lines names rose (stop.Read file) read limit = absurd limit
+limit_stop name files lines names rose (stop.Write file) read limit = absurd limit
+limit_stop name files lines names rose stop.Print read limit = absurd limit
+limit_stop name files lines names rose (stop.Words fault) read limit = absurd limit
+limit_stop name files lines names rose (stop.Script script fault) read limit = absurd limit
+limit_stop name files lines names rose (stop.Load file fault) read limit = absurd limit
 
 or_there : (b c : Bool) → c ≡ true → (b || c) ≡ true
 or_there true c is = refl
 or_there false c is = is
 
-among_loads : (ws : List (List ℕ)) (f : Files) (lines : List Line) (file : List ℕ) → lines_in f (script_name ws) ≡ Ok lines → among (loads_named (commands_of lines)) file ≡ true → among (inputs_of ws f) file ≡ true
-unfolding inputs_of
-among_loads ws f lines file read there = ap (λ r. among (inputs_with (script_name ws) r) file) read ∙ or_there (bytes_eq (script_name ws) file) (among (loads_named (commands_of lines)) file) there
+among_loads : (name : List ℕ) (f : Files) (lines : List Line) (file : List ℕ) → lines_in f name ≡ Ok lines → among (loads_named (commands_of lines)) file ≡ true → among (inputs_of_script name f) file ≡ true
+among_loads name f lines file read there = ap (λ r. among (inputs_with name r) file) read ∙ or_there (bytes_eq name file) (among (loads_named (commands_of lines)) file) there
 
-pub loads_lift : (ws : List (List ℕ)) (files : Option Files) (job : Job) (lines : List Line) (names : List (List ℕ)) → job_of ws ≡ Ok job → IfTold files (λ f. lines_in f (script_name ws) ≡ Ok lines) → passed_in (replies_of ws) lines ≡ None → names ≡ loads_named (commands_of lines)
-    → IfTold files (λ f. Lifts (loads_in f names) (ending_of ws f) names (inputs_of ws f))
-loads_lift ws None job lines names is read none named = tt
-loads_lift ws (Some f) job lines names is read none named = (
-  λ s stopped. by_loads ws f job lines is read none ∙ ap (λ r. and_then r (λ loads. Ok (plan_of lines loads))) (ap (loads_in f) (sym named) ∙ stopped),
-  λ file there. among_loads ws f lines file read (ap (λ ns. among ns file) (sym named) ∙ there),
+pub loads_lift : (name : List ℕ) (files : Option Files) (lines : List Line) (names : List (List ℕ)) → IfTold files (λ f. lines_in f name ≡ Ok lines) → passed_in (reply_name name) lines ≡ None → names ≡ loads_named (commands_of lines)
+    → IfTold files (λ f. Lifts (loads_in f names) (ending_of_script name f) names (inputs_of_script name f))
+loads_lift name None lines names read none named = tt
+loads_lift name (Some f) lines names read none named = (
+  λ s stopped. by_limit name f lines None read none ∙ ap (λ r. and_then r (λ loads. Ok (plan_of lines loads))) (ap (loads_in f) (sym named) ∙ stopped),
+  λ file there. among_loads name f lines file read (ap (λ ns. among ns file) (sym named) ∙ there),
 )
 
-pub planned : (ws : List (List ℕ)) (files : Option Files) (job : Job) (lines : List Line) (names : List (List ℕ)) (loads : Loads) → job_of ws ≡ Ok job → IfTold files (λ f. lines_in f (script_name ws) ≡ Ok lines) → passed_in (replies_of ws) lines ≡ None → names ≡ loads_named (commands_of lines)
-    → IfTold files (λ f. loads_in f names ≡ Ok loads) → IfTold files (λ f. ending_of ws f ≡ Ok (plan_of lines loads))
-planned ws None job lines names loads is read none named there = tt
-planned ws (Some f) job lines names loads is read none named there = by_loads ws f job lines is read none ∙ ap (λ r. and_then r (λ loads. Ok (plan_of lines loads))) (ap (loads_in f) (sym named) ∙ there)
+pub planned : (name : List ℕ) (files : Option Files) (lines : List Line) (names : List (List ℕ)) (loads : Loads) → IfTold files (λ f. lines_in f name ≡ Ok lines) → passed_in (reply_name name) lines ≡ None → names ≡ loads_named (commands_of lines)
+    → IfTold files (λ f. loads_in f names ≡ Ok loads) → IfTold files (λ f. ending_of_script name f ≡ Ok (plan_of lines loads))
+planned name None lines names loads read none named there = tt
+planned name (Some f) lines names loads read none named there = by_limit name f lines None read none ∙ ap (λ r. and_then r (λ loads. Ok (plan_of lines loads))) (ap (loads_in f) (sym named) ∙ there)
 
 -- a run that isn't stopped by its words has other stops
 abbrev IsOther : {A : Type 0} → Result A Stop → Type 0
@@ -199,13 +196,17 @@ other_ending name f = other_then (lines_in f name) (ending_of_lines name f) (oth
     (other_passed name lines (passed_in (reply_name name) lines))
     (λ kept. other_then (loads_in f (loads_named (commands_of kept))) (λ loads. Ok (plan_of kept loads)) (other_loads f (loads_named (commands_of kept))) (λ loads. tt)))
 
+other_work : (work : Work) (f : Files) → IsOther (ending_of_work work f)
+other_work (Scripts names) f = other_ending (first_script names) f
+other_work (Made commands seed workers) f = tt
+
 words_only : (ws : List (List ℕ)) (f : Files) (fault : WordsFault) → ending_of ws f ≡ Err (stop.Words fault) → IsErr (job_of ws)
 unfolding ending_of
 words_only ws f fault is = of_job (job_of ws) is
   where
-    of_job : (r : Result Job WordsFault) → ending_of_job r (script_name ws) f ≡ Err (stop.Words fault) → IsErr r
+    of_job : (r : Result Job WordsFault) → ending_of_job r f ≡ Err (stop.Words fault) → IsErr r
     of_job (Err other) is = refl
-    of_job (Ok job) is = absurd (subst IsOther is (other_ending (script_name ws) f))
+    of_job (Ok job) is = absurd (subst IsOther is (other_work job.work f))
 
 -- the status of a stop is one that the ending allows
 want_of_memory : (ending : Result Plan Stop) (rf wf : Type 0) → HasStatus ending 6 rf wf

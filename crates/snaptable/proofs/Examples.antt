@@ -14,15 +14,16 @@ use Rattle.snap_text.specs.declared.fault.ScriptFault.TheVariants as script
 use Rattle.snap_text.specs.declared.script.Line.{Line}
 use Rattle.snaptable.specs.declared.needs.Limit.TheVariants as limit
 use Rattle.snaptable.specs.declared.outcome.Stop.TheVariants as stop
+use Rattle.snaptable.specs.declared.words.Work.TheVariants.{Made, Scripts}
 use Rattle.snaptable.specs.declared.words.WordsFault.TheVariants as fault
 use Rattle.clap.proofs.OnLiterals.{clap_on_literals}
 use Rattle.snaptable.specs.CommandLine.{arguments_of, misuse}
 use Rattle.snaptable.specs.Generator.{first_commands, first_number, lines_from, made_script, nth_command, nth_number}
-use Rattle.snaptable.specs.Words.{job_of, one_script, script_name}
+use Rattle.snaptable.specs.Words.{job_of}
 use Rattle.snaptable.specs.Needs.{commands_of, loads_named, passed_in, tables_named}
 use Rattle.snaptable.specs.Replies.{Plan, exports_of, reply_file, reply_name}
 use Rattle.snaptable.specs.Printed.{stop_text, summary}
-use Rattle.snaptable.specs.Outcomes.{ending_of, plan_of}
+use Rattle.snaptable.specs.Outcomes.{ending_of, inputs_of, made_plan, plan_of, replies_of}
 
 abbrev line : ℕ → Command → Line
 line n command = record { line = n; command = command }
@@ -73,13 +74,13 @@ taken = refl
 reply_file_name : reply_name (codes "a.txt") ≡ codes "a.txt.out"
 reply_file_name = refl
 
-words_taken : job_of (codes "--" ∷ codes "dir/a-1.txt" ∷ []) ≡ Ok (one_script (codes "dir/a-1.txt"))
+words_taken : job_of (codes "--" ∷ codes "dir/a-1.txt" ∷ []) ≡ Ok (record { rows = 65_536; last = None; work = Scripts (codes "dir/a-1.txt" ∷ []) })
 unfolding clap_on_literals job_of misuse arguments_of
 words_taken = refl
 
-made_not_yet : job_of (codes "--seed=7" ∷ codes "--generate" ∷ codes "010" ∷ []) ≡ Err fault.NotYet
+made_taken : job_of (codes "--seed=7" ∷ codes "--generate" ∷ codes "010" ∷ []) ≡ Ok (record { rows = 65_536; last = None; work = Made 10 7 1 })
 unfolding clap_on_literals job_of misuse arguments_of
-made_not_yet = refl
+made_taken = refl
 
 -- each refusal, before those that stand behind it
 words_misused : job_of (codes "--rows" ∷ codes "0" ∷ codes "--rows=0" ∷ []) ≡ Err fault.Usage
@@ -102,9 +103,9 @@ output_refused : job_of (codes "a" ∷ codes "--final" ∷ codes "a.out" ∷ [])
 unfolding clap_on_literals job_of misuse arguments_of
 output_refused = refl
 
-not_yet_refused : job_of (codes "a" ∷ codes "--rows" ∷ codes "3" ∷ codes "b" ∷ []) ≡ Err fault.NotYet
+not_yet_refused : (job_of (codes "a" ∷ codes "--rows" ∷ codes "3" ∷ codes "b" ∷ []) ≡ Err fault.NotYet) × (job_of (codes "--generate=1" ∷ codes "--workers=2" ∷ []) ≡ Err fault.NotYet)
 unfolding clap_on_literals job_of misuse arguments_of
-not_yet_refused = refl
+not_yet_refused = (refl, refl)
 
 -- the first numbers and commands from seed 7
 numbers : (nth_number (first_number 7 0) 1 ≡ 1_282_168_116) × (nth_number (first_number 7 0) 2 ≡ 642_666_333) × (nth_number (first_number 7 0) 3 ≡ 712_265_938)
@@ -120,20 +121,32 @@ abbrev with_script : List ℕ → Files
 with_script text = λ name. if bytes_eq name (codes "a") then Some text else None
 
 endings : (ending_of [] (with_script []) ≡ Err (stop.Words fault.Choice)) × (ending_of (codes "b" ∷ []) (with_script []) ≡ Err (stop.Read (codes "b")))
-unfolding clap_on_literals job_of misuse arguments_of script_name ending_of
+unfolding clap_on_literals job_of misuse arguments_of ending_of
 endings = (refl, refl)
 
 ending_refused : ending_of (codes "a" ∷ []) (with_script (codes "get x")) ≡ Err (stop.Script (codes "a") (script.Line 1 kind.BadNumber))
-unfolding clap_on_literals job_of misuse arguments_of script_name ending_of script_of all_free verb_of
+unfolding clap_on_literals job_of misuse arguments_of ending_of script_of all_free verb_of
 ending_refused = refl
 
 ending_lacking : ending_of (codes "a" ∷ []) (with_script (codes "load l\n")) ≡ Err (stop.Read (codes "l"))
-unfolding clap_on_literals job_of misuse arguments_of script_name ending_of script_of all_free verb_of passed_in
+unfolding clap_on_literals job_of misuse arguments_of ending_of script_of all_free verb_of passed_in
 ending_lacking = refl
 
 ending_complete : ending_of (codes "a" ∷ []) (with_script (codes "get 1\n")) ≡ Ok (plan_of (line 1 (Get 1) ∷ []) [])
-unfolding clap_on_literals job_of misuse arguments_of script_name ending_of script_of all_free verb_of passed_in
+unfolding clap_on_literals job_of misuse arguments_of ending_of script_of all_free verb_of passed_in
 ending_complete = refl
+
+-- a script that is made
+abbrev made_words : List (List ℕ)
+made_words = codes "--generate" ∷ codes "4" ∷ codes "--seed" ∷ codes "7" ∷ []
+
+ending_made : (ending_of made_words (with_script []) ≡ Ok (made_plan 4 7 1)) × (inputs_of made_words (with_script []) ≡ []) × (replies_of made_words ≡ None)
+unfolding clap_on_literals job_of misuse arguments_of ending_of inputs_of replies_of
+ending_made = (refl, refl, refl)
+
+made_summary : summary (made_plan 4 7 1) ≡ codes "scripts 1 commands 4 full 0\ntable main writes 3 pairs 3\n"
+unfolding digits nth_number nth_command first_commands lines_from
+made_summary = refl
 
 -- texts
 texts : (stop_text (stop.Limit (codes "a") (record { line = 9; limit = limit.TooManyLoads })) ≡ codes "script a line 9: TooManyLoads\n") × (stop_text (stop.Read (codes "l")) ≡ codes "read fault: l\n")

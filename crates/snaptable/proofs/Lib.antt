@@ -11,5 +11,6 @@ pub mod MadeRuns
 pub mod Outputs
 pub mod Jobs
 pub mod Endings
+pub mod MadeEnds
 pub mod Carried
 mod Examples

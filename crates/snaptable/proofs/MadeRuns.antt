@@ -1,6 +1,8 @@
 -- A script that is made can be run wherever the first slot is free.
-use Rattle.std.proofs.Common.{◌≡◌, ◌<◌, ◌+◌, ℕ, zero, suc, length, List, [], ◌∷◌, ◌++◌, Option, None, Some, Bool, true, false, cond, refl, sym, ◌∙◌, ap, subst, map, arith}
-use Rattle.std.specs.Prelude.{◌*◌, ◌/◌, ◌%◌, ◌==◌, IsNone, IsSome, nat_lt, slice_set}
+use Rattle.std.proofs.Common.{◌≡◌, ◌<◌, ◌+◌, ℕ, zero, suc, length, List, [], ◌∷◌, ◌++◌, Option, None, Some, Bool, true, false, cond, refl, sym, ◌∙◌, ap, ap₂, subst, map, arith}
+use Rattle.std.specs.Prelude.{◌*◌, ◌/◌, ◌%◌, ◌==◌, IsNone, IsSome, fold, nat_lt, slice_set}
+use Rattle.std.specs.List.{filter_map}
+use Rattle.std.proofs.lemmas.List.Elements.{filter_map-append}
 use Rattle.std.proofs.lemmas.List.{get_or-set_same, length-set}
 use Rattle.snap_model.specs.SortedMap.{Pairs}
 use Rattle.snap_model.specs.declared.command.Command.{Command}
@@ -10,7 +12,9 @@ use Rattle.snap_service.specs.States.{State, clone_at, map_in_use, with_slot}
 use Rattle.snap_service.specs.Commands.{state_after}
 use Rattle.snap_service.specs.Runs.{CanRunAll, state_after_all}
 use Rattle.snap_text.specs.declared.script.Line.{Line}
-use Rattle.snaptable.specs.Generator.{HasRoom, RunsWithRoom, census, census_after, command_of_kind, first_commands, first_number, key_of, lines_from, nth_command, nth_number}
+use Rattle.snaptable.specs.Generator.{HasRoom, RunsWithRoom, census, census_after, command_of_kind, first_commands, first_number, key_of, lines_from, made_script, nth_command, nth_number, share_of}
+use Rattle.snaptable.specs.Needs.{commands_of, main_table, table_in, tables_named, with_name}
+use Rattle.snaptable.specs.Replies.{first_state}
 use Rattle.snaptable.proofs.Generated.{IsMade}
 
 -- commands that can be run, and leave the first slot free
@@ -82,3 +86,47 @@ made_runs seed workers worker n script number made s loads has =
     let all = (all_go s loads seed workers worker n has).runs in
     let same : commands_in script ≡ first_commands seed workers worker n = ap commands_in made.lines ∙ commands_in-lines_from 1 (first_commands seed workers worker n) in
     subst (λ (cs : List Command). CanRunAll s loads cs) (sym same) all
+
+-- it names no table, so it runs on the first alone
+command_in_use : (kind key value : ℕ) → filter_map table_in (command_of_kind kind key value ∷ []) ≡ []
+command_in_use kind key value = of_tests (nat_lt kind 9) (nat_lt kind 12)
+  where
+    of_tests : (puts removes : Bool) → filter_map table_in (cond puts (command.Put key value) (cond removes (command.Remove key) (command.Get key)) ∷ []) ≡ []
+    of_tests true removes = refl
+    of_tests false true = refl
+    of_tests false false = refl
+
+nth_in_use : (seed workers worker n : ℕ) → filter_map table_in (nth_command seed workers worker n ∷ []) ≡ []
+unfolding nth_command
+nth_in_use seed workers worker n =
+    let a = nth_number (first_number seed worker) (2 * n + 1) in
+    let b = nth_number (first_number seed worker) (2 * n + 2) in
+    command_in_use (a / 65_536 % 16) (key_of workers worker b) b
+
+count_in_use : (n : ℕ) → filter_map table_in (census_after n) ≡ []
+count_in_use n = of_test (n % 10_000 == 0)
+  where
+    of_test : (b : Bool) → filter_map table_in (cond b census []) ≡ []
+    of_test true = refl
+    of_test false = refl
+
+all_in_use : (seed workers worker n : ℕ) → filter_map table_in (first_commands seed workers worker n) ≡ []
+unfolding first_commands
+all_in_use seed workers worker zero = refl
+all_in_use seed workers worker (suc n) =
+    let next = nth_command seed workers worker n in
+    filter_map-append table_in (first_commands seed workers worker n) (next ∷ census_after (n + 1))
+    ∙ ap₂ (λ (xs ys : List (List ℕ)). xs ++ ys) (all_in_use seed workers worker n)
+    (filter_map-append table_in (next ∷ []) (census_after (n + 1))
+    ∙ ap₂ (λ (xs ys : List (List ℕ)). xs ++ ys) (nth_in_use seed workers worker n) (count_in_use (n + 1)))
+
+pub made_tables : (commands seed workers worker : ℕ) (script : List Line) → script ≡ made_script commands seed workers worker → tables_named (commands_of script) ≡ main_table ∷ []
+unfolding commands_in
+made_tables commands seed workers worker script is =
+    let drawn = first_commands seed workers worker (share_of commands workers worker) in
+    let same : commands_in script ≡ drawn = ap commands_in is ∙ commands_in-lines_from 1 drawn in
+    ap (λ (cs : List Command). tables_named cs) same ∙ ap (fold with_name (main_table ∷ [])) (all_in_use seed workers worker (share_of commands workers worker))
+
+-- the first slot is free where a run begins
+pub room_at_first : (names : List (List ℕ)) → HasRoom (first_state names)
+room_at_first names = record { place = omega arith; free = refl }

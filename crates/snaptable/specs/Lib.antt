@@ -11,3 +11,4 @@ pub mod Replies
 pub mod Printed
 pub mod Inputs
 pub mod Outcomes
+pub mod Runnable

@@ -1,5 +1,5 @@
 -- What a run has to come to, by its words and the files that it finds.
-use Rattle.std.specs.Prelude.{◌≡◌, ◌⊎◌, ◌++◌, ◌≤◌, ℕ, List, [], ◌∷◌, Option, Some, None, Result, Ok, Err, IsTrue, ⊤, take, map, bytes_eq}
+use Rattle.std.specs.Prelude.{◌≡◌, ◌⊎◌, ◌++◌, ◌≤◌, ℕ, List, [], ◌∷◌, Option, Some, None, Result, MatchResult, Ok, Err, IsTrue, ⊤, take, map, bytes_eq}
 use Rattle.std.specs.Option.{option_or}
 use Rattle.std.specs.Map.{lookup}
 use Rattle.snap_io.specs.Shelves.{Files, Changes, IfTold}
@@ -8,8 +8,11 @@ use Rattle.snap_service.specs.LoadFiles.{Loads}
 use Rattle.snaptable.specs.declared.outcome.Stop.{Stop}
 use Rattle.snaptable.specs.declared.outcome.Stop.TheVariants as stop
 use Rattle.snaptable.specs.declared.words.Job.{Job}
+use Rattle.snaptable.specs.declared.words.Work.{Work}
+use Rattle.snaptable.specs.declared.words.Work.TheVariants.{Made, Scripts}
 use Rattle.snaptable.specs.declared.words.WordsFault.{WordsFault}
-use Rattle.snaptable.specs.Words.{job_of, script_name}
+use Rattle.snaptable.specs.Generator.{made_script}
+use Rattle.snaptable.specs.Words.{first_script, job_of}
 use Rattle.snaptable.specs.Needs.{among, commands_of, loads_named}
 use Rattle.snaptable.specs.Stops.{status_of}
 use Rattle.snaptable.specs.Replies.{Outputs, Plan, outputs_of, reply_name}
@@ -25,20 +28,63 @@ ending_of_lines name files lines =
     and_then (within_limits name (reply_name name) lines) (λ kept.
     and_then (loads_in files (loads_named (commands_of kept))) (λ loads. Ok (plan_of kept loads)))
 
-abbrev pub ending_of_job : Result Job WordsFault → List ℕ → Files → Result Plan Stop
-ending_of_job (Err fault) name files = Err (stop.Words fault)
-ending_of_job (Ok job) name files = and_then (lines_in files name) (ending_of_lines name files)
+abbrev pub ending_of_script : List ℕ → Files → Result Plan Stop
+ending_of_script name files = and_then (lines_in files name) (ending_of_lines name files)
+
+-- the plan of a script that is made, for the first of the workers: it needs no files
+abbrev pub made_plan : ℕ → ℕ → ℕ → Plan
+made_plan commands seed workers = plan_of (made_script commands seed workers 0) []
+
+abbrev pub ending_of_work : Work → Files → Result Plan Stop
+ending_of_work (Scripts names) files = ending_of_script (first_script names) files
+ending_of_work (Made commands seed workers) files = Ok (made_plan commands seed workers)
+
+abbrev pub ending_of_job : Result Job WordsFault → Files → Result Plan Stop
+ending_of_job (Err fault) files = Err (stop.Words fault)
+ending_of_job (Ok job) files = ending_of_work job.work files
 
 unfoldable pub ending_of : List (List ℕ) → Files → Result Plan Stop
-ending_of words files = ending_of_job (job_of words) (script_name words) files
+ending_of words files = ending_of_job (job_of words) files
 
 -- the names of the files that a run has to read: its script, and the load files of a script that is there
 abbrev pub inputs_with : List ℕ → Result (List Line) Stop → List (List ℕ)
 inputs_with name (Ok lines) = name ∷ loads_named (commands_of lines)
 inputs_with name (Err stop) = name ∷ []
 
+abbrev pub inputs_of_script : List ℕ → Files → List (List ℕ)
+inputs_of_script name files = inputs_with name (lines_in files name)
+
+abbrev pub inputs_of_work : Work → Files → List (List ℕ)
+inputs_of_work (Scripts names) files = inputs_of_script (first_script names) files
+inputs_of_work (Made commands seed workers) files = []
+
+abbrev pub inputs_of_job : Result Job WordsFault → Files → List (List ℕ)
+inputs_of_job (Err fault) files = []
+inputs_of_job (Ok job) files = inputs_of_work job.work files
+
 unfoldable pub inputs_of : List (List ℕ) → Files → List (List ℕ)
-inputs_of words files = inputs_with (script_name words) (lines_in files (script_name words))
+inputs_of words files = inputs_of_job (job_of words) files
+
+-- the name of the file for the replies; those to a made script are not written
+abbrev pub replies_of_work : Work → Option (List ℕ)
+replies_of_work (Scripts names) = Some (reply_name (first_script names))
+replies_of_work (Made commands seed workers) = None
+
+abbrev pub replies_of_job : Result Job WordsFault → Option (List ℕ)
+replies_of_job (Err fault) = None
+replies_of_job (Ok job) = replies_of_work job.work
+
+unfoldable pub replies_of : List (List ℕ) → Option (List ℕ)
+replies_of words = replies_of_job (job_of words)
+
+-- a fact of the plan that is made, where a script is
+abbrev pub OfMadeWork : Work → (Plan → Type 0) → Type 0
+OfMadeWork (Scripts names) fact = ⊤
+OfMadeWork (Made commands seed workers) fact = fact (made_plan commands seed workers)
+
+abbrev pub OfMade : Result Job WordsFault → (Plan → Type 0) → Type 0
+OfMade (Err fault) fact = ⊤
+OfMade (Ok job) fact = OfMadeWork job.work fact
 
 -- the plan of a run, where the files are told, with a fact of it
 pub record ForPlan (words : List (List ℕ)) (files : Option Files) (fact : Plan → Type 0) : Type 0 where
@@ -87,23 +133,23 @@ abbrev pub HasBegun : Outputs → Files → Files → Type 0
 HasBegun outputs old new = (name : List ℕ) → (new name ≡ old name) ⊎ HasFront (text_for outputs name) (new name)
 
 -- all is written and the summary is printed
-pub record IsDone (replies : List ℕ) (plan : Plan) (old new : Option Files) (before now : Option (List ℕ)) : Type 0 where
+pub record IsDone (replies : Option (List ℕ)) (plan : Plan) (old new : Option Files) (before now : Option (List ℕ)) : Type 0 where
   pub files : Changes old new (HasWritten (outputs_of replies plan))
   pub sink : Adds before now (summary plan)
 
 -- a file of the run could not be written whole, and nothing is printed yet
-pub record IsCutOff (replies : List ℕ) (plan : Plan) (name : List ℕ) (old new : Option Files) (before now : Option (List ℕ)) : Type 0 where
+pub record IsCutOff (replies : Option (List ℕ)) (plan : Plan) (name : List ℕ) (old new : Option Files) (before now : Option (List ℕ)) : Type 0 where
   pub named : IsTrue (among (map (λ output. output.0) (outputs_of replies plan)) name)
   pub files : Changes old new (HasBegun (outputs_of replies plan))
   pub sink : now ≡ before
 
 -- all is written, and of the summary a front at most is printed
-pub record IsUnsaid (replies : List ℕ) (plan : Plan) (old new : Option Files) (before now : Option (List ℕ)) : Type 0 where
+pub record IsUnsaid (replies : Option (List ℕ)) (plan : Plan) (old new : Option Files) (before now : Option (List ℕ)) : Type 0 where
   pub files : Changes old new (HasWritten (outputs_of replies plan))
   pub sink : AddsPart before now (summary plan)
 
 -- how a plan that was begun is stopped; nothing is said after want of memory
-abbrev pub IsBrokenOff : List ℕ → Plan → Option Files → Option Files → Option (List ℕ) → Option (List ℕ) → Type 0 → Type 0 → Stop → Type 0
+abbrev pub IsBrokenOff : Option (List ℕ) → Plan → Option Files → Option Files → Option (List ℕ) → Option (List ℕ) → Type 0 → Type 0 → Stop → Type 0
 IsBrokenOff replies plan old new before now write_fault sink_fault (stop.Write name) =
     write_fault × IsCutOff replies plan name old new before now
 IsBrokenOff replies plan old new before now write_fault sink_fault stop.Print =
@@ -115,10 +161,6 @@ IsBrokenOff replies plan old new before now write_fault sink_fault _ = ⊥
 pub record IsUntouched (old new : Option Files) (before now : Option (List ℕ)) : Type 0 where
   pub files : new ≡ old
   pub sink : now ≡ before
-
--- the name of the file for the replies of the script that the words name
-abbrev pub replies_of : List (List ℕ) → List ℕ
-replies_of words = reply_name (script_name words)
 
 -- why a run stopped, and what it left
 abbrev pub StopsFor : List (List ℕ) → Option Files → Option Files → Option (List ℕ) → Option (List ℕ) → Type 0 → Type 0 → Type 0 → Stop → Type 0
@@ -166,3 +208,13 @@ abbrev pub IsPrintStop : Option (List ℕ) → Option (List ℕ) → List ℕ �
 IsPrintStop before now text sink_fault stop.Memory = ⊤
 IsPrintStop before now text sink_fault stop.Print = sink_fault × AddsPart before now text
 IsPrintStop before now text sink_fault _ = ⊥
+
+-- a text was printed, or it could not be
+abbrev pub IsPrinted : Option (List ℕ) → Option (List ℕ) → List ℕ → Type 0 → Result (Unit {0}) Stop → Type 0
+IsPrinted before now text sink_fault result =
+    MatchResult result (λ _. Adds before now text) (IsPrintStop before now text sink_fault)
+
+-- the status of a run that only prints a text: where memory was wanting, nothing is said of what it printed
+abbrev pub HasPrinted : Option (List ℕ) → Option (List ℕ) → List ℕ → Type 0 → ℕ → Type 0
+HasPrinted before now text sink_fault status =
+    (status ≡ 0) × Adds before now text ⊎ (status ≡ 5) × sink_fault × AddsPart before now text ⊎ (status ≡ 6)

@@ -1,5 +1,5 @@
 -- What the commands of a script reply and export, and the text of these replies.
-use Rattle.std.specs.Prelude.{ℕ, List, [], ◌∷◌, ◌++◌, codes, length}
+use Rattle.std.specs.Prelude.{ℕ, List, [], ◌∷◌, ◌++◌, Option, None, Some, codes, length}
 use Rattle.snap_model.specs.declared.command.Command.{Command}
 use Rattle.snap_model.specs.declared.command.Command.TheVariants as command
 use Rattle.snap_text.specs.declared.script.Line.{Line}
@@ -56,9 +56,10 @@ exports_from s loads (c ∷ cs) = exported c (text_of s c) ++ exports_from (stat
 abbrev pub exports_of : Plan → Outputs
 exports_of plan = exports_from (state_before plan) plan.loads (commands_of plan.lines)
 
--- all files that a run writes: the replies, and then the exports
-abbrev pub outputs_of : List ℕ → Plan → Outputs
-outputs_of replies plan = (replies, reply_file plan) ∷ exports_of plan
+-- all files that a run writes: the replies, and then the exports; none where the replies have no file
+abbrev pub outputs_of : Option (List ℕ) → Plan → Outputs
+outputs_of None plan = []
+outputs_of (Some replies) plan = (replies, reply_file plan) ∷ exports_of plan
 
 -- commands that a session runs: of those that no line of a script makes, none
 abbrev pub IsKnown : Command → Type 0

@@ -1,5 +1,5 @@
 -- The words of the command line: which are accepted, and what they ask for.
-use Rattle.std.specs.Prelude.{◌≡◌, ◌≤◌, ◌⊎◌, ◌==◌, ◌&&◌, ◌||◌, ◌++◌, ℕ, Bool, true, false, not, List, [], ◌∷◌, Option, None, Some, Result, Ok, Err, bytes_eq, is_some, length, map, nat_le, nat_lt, slice_index_or, if◌then◌else◌}
+use Rattle.std.specs.Prelude.{◌≡◌, ◌≤◌, ◌==◌, ◌&&◌, ◌||◌, ◌++◌, ℕ, Bool, true, false, not, List, [], ◌∷◌, Option, None, Some, Result, Ok, Err, bytes_eq, is_some, length, map, nat_le, nat_lt, slice_index_or, if◌then◌else◌}
 use Rattle.std.specs.List.{list_all, list_any}
 use Rattle.std.specs.Option.{option_to_list}
 use Rattle.std.specs.Str.Parse.{digits_value}
@@ -70,9 +70,9 @@ abbrev pub has_twice : List Text → Bool
 has_twice [] = false
 has_twice (text ∷ texts) = list_any (bytes_eq text) texts || has_twice texts
 
--- what a run can't do yet: several scripts, tables of another size, a final file, scripts that are made
+-- what a run can't do yet: several scripts, tables of another size, a final file, several workers
 abbrev pub asks_for_more : Arguments → Bool
-asks_for_more a = nat_lt 1 (length a.scripts) || (is_some a.rows || (is_some a.last || is_some a.generate))
+asks_for_more a = nat_lt 1 (length a.scripts) || (is_some a.rows || (is_some a.last || nat_lt 1 (number_or 1 a.workers)))
 
 -- the first fault of what the words give
 abbrev pub fault_in : Arguments → Option WordsFault
@@ -105,14 +105,16 @@ job_unless (kind ∷ kinds) a = Err fault.Usage
 unfoldable pub job_of : List Text → Result Job WordsFault
 job_of words = job_unless (misuse words) (arguments_of words)
 
--- the name of the first script
-unfoldable pub script_name : List Text → Text
-script_name words = slice_index_or (arguments_of words).scripts 0 []
+-- the first of the scripts
+abbrev pub first_script : List Text → Text
+first_script names = slice_index_or names 0 []
 
--- one script on tables of the usual size
-abbrev pub one_script : Text → Job
-one_script name = record { rows = usual_rows; last = None; work = Scripts (name ∷ []) }
+-- one script, from a file or made up for one worker
+abbrev pub IsOneScript : Work → Type 0
+IsOneScript (Scripts names) = length names ≡ 1
+IsOneScript (Made commands seed workers) = (commands ≤ most_commands) × (workers ≡ 1)
 
-pub record IsOneScript (job : Job) : Type 0 where
-  pub name : Text
-  pub is : job ≡ one_script name
+-- what a run can do: one script on tables of the usual size
+pub record IsReady (job : Job) : Type 0 where
+  pub rows : job.rows ≡ usual_rows
+  pub script : IsOneScript job.work

@@ -1,19 +1,10 @@
-use Rattle.std.proofs.Common.{◌≡◌, ◌≢◌, ◌∷◌, [], ◌∙◌, List, ℕ, None, Ok, length, map, ap, sym, subst}
-use Rattle.std.specs.Prelude.{AllPairs, string_bytes}
-use Rattle.snap_io.specs.Causes.{Rose}
-use Rattle.snap_io.specs.Shelves.{IfTold}
-use Rattle.snap_service.proofs.Scripts.{script_can_run}
-use Rattle.snap_service.specs.Tables.{empty_tables}
-use Rattle.snaptable.specs.Words.{script_name}
+use Rattle.std.proofs.Common.{◌∙◌, List, ℕ, map, sym}
+use Rattle.std.specs.Prelude.{string_bytes}
+use Rattle.std.proofs.lemmas.Result.{IfErr-weaker, IfOk-weaker}
 use Rattle.snaptable.specs.Stops.{stop_of_words}
-use Rattle.snaptable.specs.Needs.{commands_of, load_in, loads_named, main_table, passed_in, table_in, tables_named}
-use Rattle.snaptable.specs.Inputs.{IsLimitStop, StopsBy, lines_in, loads_in}
-use Rattle.snaptable.specs.Replies.{reply_name}
-use Rattle.snaptable.specs.Outcomes.{ending_of, inputs_of, replies_of}
-use Rattle.snaptable.proofs.Commands.{known_commands}
-use Rattle.snaptable.proofs.Endings.{limit_stop, loads_lift, one_name, past_words, planned, script_lifts, words_stop}
-use Rattle.snaptable.proofs.Gathered.{if_err, rose_behind, stops_lift}
-use Rattle.snaptable.proofs.Names.{all_named, all_served, loads_differ}
+use Rattle.snaptable.specs.Outcomes.{plan_of}
+use Rattle.snaptable.proofs.Endings.{planned_by, replies_by, stopped_by, words_stop}
+use Rattle.snaptable.proofs.Gathered.{if_err}
 use Rattle.snaptable.proofs.accepting.accept.Goals as goal
 
 pub returns-in_err-job-clause-stops : goal.returns-in_err-job-clause-stops
@@ -21,76 +12,22 @@ returns-in_err-job-clause-stops g c =
     let ws : List (List ℕ) = map string_bytes c.args.words.now in
     if_err _ _ (stop_of_words c.in_err-job.field-0.0) c.from_residual.ensures.1 (words_stop ws _ _ _ c.in_err-job.field-0.0 c.in_err-job.ensures.refused)
 
-pub returns-in_err-script-clause-words : goal.returns-in_err-script-clause-words
-returns-in_err-script-clause-words g c = if_err _ _ c.in_err-script.field-0.0 c.from_residual-in_err-script.ensures.1 (past_words _ c.in_err-script.field-0.0 c.in_err-script.ensures.past_words)
-
-pub returns-in_err-script-clause-stops : goal.returns-in_err-script-clause-stops
-returns-in_err-script-clause-stops g c =
-    let ws : List (List ℕ) = map string_bytes c.args.words.now in
-    let files = g.S.Shelf.files c.args.shelf.now in
-    let name = c.script_of-name.result.now in
-    let named : name ≡ script_name ws = one_name _ _ (sym c.script_of-name.ensures ∙ c.in_ok-job.ensures.one) in
-    if_err _ _ c.in_err-script.field-0.0 c.from_residual-in_err-script.ensures.1
-    (stops_lift files (λ f. lines_in f name) (ending_of ws) (λ f. name ∷ []) (inputs_of ws) _ _ (λ rose. rose) (script_lifts ws files c.in_ok-job.job name c.in_ok-job.ensures.ok named) c.in_err-script.field-0.0 c.in_err-script.ensures.stops)
-
-pub returns-in_err-tables-clause-stops : goal.returns-in_err-tables-clause-stops
-returns-in_err-tables-clause-stops g c =
-    let ws : List (List ℕ) = map string_bytes c.args.words.now in
-    let files = g.S.Shelf.files c.args.shelf.now in
-    let name = c.script_of-name.result.now in
-    let named : name ≡ script_name ws = one_name _ _ (sym c.script_of-name.ensures ∙ c.in_ok-job.ensures.one) in
-    let lines = c.in_ok-script.script in
-    let stop = c.in_err-tables.field-0.0 in
-    let limit = subst (λ r. IsLimitStop name (passed_in r lines) stop) c.in_ok-replies.ensures
-    (subst (λ ls. IsLimitStop name (passed_in c.in_ok-replies.replies ls) stop) c.lines.ensures c.in_err-tables.ensures.stops) in
-    if_err _ _ stop c.from_residual-in_err-tables.ensures.1 (limit_stop ws files c.in_ok-job.job lines name (inputs_of ws) _ stop c.in_ok-job.ensures.ok named c.in_ok-script.ensures.lines limit)
-
-pub read_loads-requires : goal.read_loads-requires
-read_loads-requires g c = subst (AllPairs (λ (a b : List ℕ). a ≢ b)) (sym (c.list.ensures ∙ c.in_ok-tables.ensures.loads)) (loads_differ (commands_of c.lines.result.now))
-
-pub returns-in_err-loads-clause-words : goal.returns-in_err-loads-clause-words
-returns-in_err-loads-clause-words g c = if_err _ _ c.in_err-loads.field-0.0 c.from_residual-in_err-loads.ensures.1 (past_words _ c.in_err-loads.field-0.0 c.in_err-loads.ensures.past_words)
-
-pub returns-in_err-loads-clause-stops : goal.returns-in_err-loads-clause-stops
-returns-in_err-loads-clause-stops g c =
-    let ws : List (List ℕ) = map string_bytes c.args.words.now in
-    let files = g.S.Shelf.files c.args.shelf.now in
-    let name = c.script_of-name.result.now in
-    let named : name ≡ script_name ws = one_name _ _ (sym c.script_of-name.ensures ∙ c.in_ok-job.ensures.one) in
-    let lines = c.in_ok-script.script in
-    let names = c.list.result.now in
-    let is_names : names ≡ loads_named (commands_of lines) = c.list.ensures ∙ c.in_ok-tables.ensures.loads ∙ ap (λ ls. loads_named (commands_of ls)) c.lines.ensures in
-    let read : IfTold files (λ f. lines_in f (script_name ws) ≡ Ok lines) = subst (λ n. IfTold files (λ f. lines_in f n ≡ Ok lines)) named c.in_ok-script.ensures.lines in
-    let none : passed_in (replies_of ws) lines ≡ None =
-    ap (λ r. passed_in r lines) (sym (c.in_ok-replies.ensures ∙ ap reply_name named)) ∙ ap (λ ls. passed_in c.in_ok-replies.replies ls) (sym c.lines.ensures) ∙ c.in_ok-tables.ensures.within in
-    let stop = c.in_err-loads.field-0.0 in
-    let rose = Rose (g.S.Shelf.read_faults c.read_lines.new.shelf) (g.S.Shelf.read_faults c.read_loads.new.shelf) in
-    let stops = subst (λ fs. StopsBy fs (λ f. loads_in f names) (λ f. names) rose stop) c.in_ok-script.ensures.files c.in_err-loads.ensures.stops in
-    if_err _ _ stop c.from_residual-in_err-loads.ensures.1
-    (stops_lift files (λ f. loads_in f names) (ending_of ws) (λ f. names) (inputs_of ws) rose _ (λ risen. rose_behind _ _ _ c.in_ok-script.ensures.later risen) (loads_lift ws files c.in_ok-job.job lines names c.in_ok-job.ensures.ok read none is_names) stop stops)
-
 pub returns-clause-plan : goal.returns-clause-plan
 returns-clause-plan g c =
     let ws : List (List ℕ) = map string_bytes c.args.words.now in
     let files = g.S.Shelf.files c.args.shelf.now in
-    let name = c.script_of-name.result.now in
-    let named : name ≡ script_name ws = one_name _ _ (sym c.script_of-name.ensures ∙ c.in_ok-job.ensures.one) in
-    let lines = c.in_ok-script.script in
-    let names = c.list.result.now in
-    let is_names : names ≡ loads_named (commands_of lines) = c.list.ensures ∙ c.in_ok-tables.ensures.loads ∙ ap (λ ls. loads_named (commands_of ls)) c.lines.ensures in
-    let read : IfTold files (λ f. lines_in f (script_name ws) ≡ Ok lines) = subst (λ n. IfTold files (λ f. lines_in f n ≡ Ok lines)) named c.in_ok-script.ensures.lines in
-    let none : passed_in (replies_of ws) lines ≡ None =
-    ap (λ r. passed_in r lines) (sym (c.in_ok-replies.ensures ∙ ap reply_name named)) ∙ ap (λ ls. passed_in c.in_ok-replies.replies ls) (sym c.lines.ensures) ∙ c.in_ok-tables.ensures.within in
-    let there = subst (λ fs. IfTold fs (λ f. loads_in f names ≡ Ok c.in_ok-loads.loads)) c.in_ok-script.ensures.files c.in_ok-loads.ensures.loads in
-    planned ws files c.in_ok-job.job lines names c.in_ok-loads.loads c.in_ok-job.ensures.ok read none is_names there
+    let job = c.in_ok-job.job in
+    IfOk-weaker c.accept_job.result _ _ (λ accepted is. planned_by ws files job (plan_of accepted.script accepted.loads) c.in_ok-job.ensures.ok is) c.accept_job.ensures.plan
 
-pub returns-clause-commands : goal.returns-clause-commands
-returns-clause-commands g c =
-    let lines = c.in_ok-script.script in
-    let loads = c.in_ok-loads.loads in
-    let tables = c.in_ok-tables.field-0.tables in
-    let is_names = c.list.ensures ∙ c.in_ok-tables.ensures.loads ∙ ap (λ ls. loads_named (commands_of ls)) c.lines.ensures in
-    let is_tables = c.in_ok-tables.ensures.tables ∙ ap (λ ls. tables_named (commands_of ls)) c.lines.ensures in
-    script_can_run tables (empty_tables (length tables)) loads lines c.in_ok-script.ensures.uses
-    (all_served tables loads (commands_of lines) (all_named table_in (main_table ∷ []) (commands_of lines) tables is_tables)
-    (all_named load_in [] (commands_of lines) (map (λ file. file.0) loads) (c.in_ok-loads.ensures.names ∙ is_names)) (known_commands lines c.in_ok-script.ensures.known))
+pub returns-clause-replies : goal.returns-clause-replies
+returns-clause-replies g c =
+    let ws : List (List ℕ) = map string_bytes c.args.words.now in
+    let job = c.in_ok-job.job in
+    IfOk-weaker c.accept_job.result _ _ (λ accepted is. is ∙ sym (replies_by ws job c.in_ok-job.ensures.ok)) c.accept_job.ensures.replies
+
+pub returns-clause-stops : goal.returns-clause-stops
+returns-clause-stops g c =
+    let ws : List (List ℕ) = map string_bytes c.args.words.now in
+    let files = g.S.Shelf.files c.args.shelf.now in
+    let job = c.in_ok-job.job in
+    IfErr-weaker c.accept_job.result _ _ (λ stop stops. stopped_by ws files job _ stop c.in_ok-job.ensures.ok stops) c.accept_job.ensures.stops

@@ -4,14 +4,13 @@ use Rattle.snap_service.specs.States.{State}
 use Rattle.snap_service.proofs.Running.{names-after_all}
 use Rattle.snaptable.specs.Needs.{commands_of, tables_named}
 use Rattle.snaptable.proofs.Names.{a_table, tables_differ}
-use Rattle.snaptable.proofs.Walking.{few_tables}
 use Rattle.snaptable.proofs.carrying.answer.Goals as goal
 
 pub open-requires-clause-a_name : goal.open-requires-clause-a_name
 open-requires-clause-a_name g c = subst (λ (ns : List (List ℕ)). 1 ≤ length ns) (sym (c.list-names.ensures ∙ c.requires.tables)) (a_table (commands_of c.args.accepted.now.script))
 
 pub open-requires-clause-few_names : goal.open-requires-clause-few_names
-open-requires-clause-few_names g c = subst (λ (ns : List (List ℕ)). length ns ≤ 8) (sym (c.list-names.ensures ∙ c.requires.tables)) (few_tables c.args.accepted.now.replies c.args.accepted.now.script c.requires.within)
+open-requires-clause-few_names g c = subst (λ (ns : List (List ℕ)). length ns ≤ 8) (sym c.list-names.ensures) c.requires.few
 
 pub open-requires-clause-different_names : goal.open-requires-clause-different_names
 open-requires-clause-different_names g c = subst (AllPairs (λ (a b : List ℕ). a ≢ b)) (sym (c.list-names.ensures ∙ c.requires.tables)) (tables_differ (commands_of c.args.accepted.now.script))

@@ -30,8 +30,5 @@ returns-clause-ok c =
     let given = c.of-given.ensures ∙ c.in_ok-matches.ensures.arguments in
     job_found ws (given_by c.of-given.result) c.in_ok-numbers.numbers c.in_ok-job_for.field-0 c.in_ok-matches.ensures.taken given (sym c.in_ok-numbers.ensures) c.in_ok-job_for.ensures
 
-pub returns-clause-one : goal.returns-clause-one
-returns-clause-one c =
-    let ws = map string_bytes c.args.words.now in
-    let given = c.of-given.ensures ∙ c.in_ok-matches.ensures.arguments in
-    ready_found ws (given_by c.of-given.result) c.in_ok-numbers.numbers c.in_ok-job_for.field-0 given (sym c.in_ok-numbers.ensures) c.in_ok-job_for.ensures
+pub returns-clause-ready : goal.returns-clause-ready
+returns-clause-ready c = ready_found (given_by c.of-given.result) c.in_ok-numbers.numbers c.in_ok-job_for.field-0 (sym c.in_ok-numbers.ensures) c.in_ok-job_for.ensures

@@ -1,4 +1,4 @@
-use Rattle.std.proofs.Common.{◌≡◌, ◌≤◌, ◌∙◌, List, ℕ, Ok, Err, length, ap, sym, subst, arith}
+use Rattle.std.proofs.Common.{◌≡◌, ◌≤◌, ◌∙◌, Ok, Err, length, ap, subst, arith}
 use Rattle.snap_io.specs.Causes.{Rose}
 use Rattle.snap_io.specs.Shelves.{Appends, Changes}
 use Rattle.snaptable.specs.declared.outcome.Stop.{Stop}
@@ -6,21 +6,20 @@ use Rattle.snaptable.specs.Needs.{commands_of, tables_named}
 use Rattle.snaptable.specs.Replies.{exports_of, reply_file}
 use Rattle.snaptable.specs.Printed.{summary, summary_of}
 use Rattle.snaptable.specs.Outcomes.{plan_of}
-use Rattle.snaptable.proofs.Carried.{all_written, breaks, broken_by_print, done_by_print, exports_differ, first_begun, first_file, later_file, some_written}
+use Rattle.snaptable.proofs.Carried.{within_here, all_written, breaks, broken_by_print, done_by_print, exports_differ, first_begun, first_file, later_file, some_written}
 use Rattle.snaptable.proofs.Gathered.{if_err, rose_behind}
-use Rattle.snaptable.proofs.Walking.{few_tables}
 use Rattle.snaptable.proofs.Written.{file_made, file_part, file_whole}
-use Rattle.snaptable.proofs.carrying.carry_out.Goals as goal
+use Rattle.snaptable.proofs.carrying.run_written.Goals as goal
 
 pub write_exports-requires : goal.write_exports-requires
 write_exports-requires g c =
-    exports_differ c.args.accepted.now.replies c.args.accepted.now.script c.args.accepted.now.loads c.deref-2.result.now c.requires.within (c.deref-2.ensures.value ∙ c.in_ok-answers.ensures.exports)
+    exports_differ c.args.replies.now c.args.accepted.now.script c.args.accepted.now.loads c.deref-2.result.now (within_here c.args.accepted.now c.args.replies.now c.requires.runnable c.requires.replies) (c.deref-2.ensures.value ∙ c.in_ok-answers.ensures.exports)
 
 pub returns-in_err-create-clause-stops : goal.returns-in_err-create-clause-stops
 returns-in_err-create-clause-stops g c =
     let old = g.S.Shelf.files c.args.shelf.now in
     let made = g.S.Shelf.files c.create.new.shelf in
-    let replies = c.args.accepted.now.replies in
+    let replies = c.args.replies.now in
     let plan = plan_of c.args.accepted.now.script c.args.accepted.now.loads in
     let stop = c.in_err-create.field-0.0 in
     let begun = first_begun replies plan old made (file_made replies (reply_file plan) old made (Err stop) c.in_err-create.ensures.files) in
@@ -31,7 +30,7 @@ returns-in_err-append-clause-stops g c =
     let old = g.S.Shelf.files c.args.shelf.now in
     let made = g.S.Shelf.files c.create.new.shelf in
     let mid = g.S.Shelf.files c.append.new.shelf in
-    let replies = c.args.accepted.now.replies in
+    let replies = c.args.replies.now in
     let plan = plan_of c.args.accepted.now.script c.args.accepted.now.loads in
     let stop = c.in_err-append.field-0.0 in
     let is_text : c.deref.result.now ≡ reply_file plan = c.deref.ensures.value ∙ c.in_ok-answers.ensures.replies in
@@ -46,7 +45,7 @@ returns-in_err-write_exports-clause-stops g c =
     let old = g.S.Shelf.files c.args.shelf.now in
     let made = g.S.Shelf.files c.create.new.shelf in
     let mid = g.S.Shelf.files c.append.new.shelf in
-    let replies = c.args.accepted.now.replies in
+    let replies = c.args.replies.now in
     let lines = c.args.accepted.now.script in
     let loads = c.args.accepted.now.loads in
     let plan = plan_of lines loads in
@@ -59,19 +58,16 @@ returns-in_err-write_exports-clause-stops g c =
     let stop = c.in_err-write_exports.field-0.0 in
     let later : g.S.Shelf.write_faults c.args.shelf.now ≤ g.S.Shelf.write_faults c.append.new.shelf = omega (arith, c.in_ok-create.ensures.later, c.in_ok-append.ensures.later) in
     let rose = Rose (g.S.Shelf.write_faults c.append.new.shelf) (g.S.Shelf.write_faults c.write_exports.new.shelf) in
-    let begun = some_written replies lines loads exports old mid new c.requires.within is_exports first c.in_err-write_exports.ensures.begun in
+    let begun = some_written replies lines loads exports old mid new (within_here c.args.accepted.now c.args.replies.now c.requires.runnable c.requires.replies) is_exports first c.in_err-write_exports.ensures.begun in
     let unwritten = later_file replies plan exports rose _ stop (λ risen. rose_behind _ _ _ later risen) is_exports c.in_err-write_exports.ensures.stops in
     if_err _ _ stop c.from_residual-in_err-write_exports.ensures.1 (breaks replies plan old new _ _ _ stop begun unwritten)
-
-pub print_summary-requires-clause-few : goal.print_summary-requires-clause-few
-print_summary-requires-clause-few g c = subst (λ (ns : List (List ℕ)). length ns ≤ 8) (sym c.requires.tables) (few_tables c.args.accepted.now.replies c.args.accepted.now.script c.requires.within)
 
 pub returns-clause-done : goal.returns-clause-done
 returns-clause-done g c =
     let old = g.S.Shelf.files c.args.shelf.now in
     let made = g.S.Shelf.files c.create.new.shelf in
     let mid = g.S.Shelf.files c.append.new.shelf in
-    let replies = c.args.accepted.now.replies in
+    let replies = c.args.replies.now in
     let lines = c.args.accepted.now.script in
     let loads = c.args.accepted.now.loads in
     let plan = plan_of lines loads in
@@ -81,10 +77,10 @@ returns-clause-done g c =
     let exports = c.deref-2.result.now in
     let is_exports : exports ≡ exports_of plan = c.deref-2.ensures.value ∙ c.in_ok-answers.ensures.exports in
     let new = g.S.Shelf.files c.write_exports.new.shelf in
-    let written = all_written replies lines loads exports old mid new c.requires.within is_exports first c.in_ok-write_exports.ensures.written in
+    let written = all_written replies lines loads exports old mid new (within_here c.args.accepted.now c.args.replies.now c.requires.runnable c.requires.replies) is_exports first c.in_ok-write_exports.ensures.written in
     let text = summary_of (length lines) c.args.accepted.now.tables c.in_ok-answers.counts in
     let is_summary : text ≡ summary plan =
-    ap (λ ts. summary_of (length lines) ts c.in_ok-answers.counts) c.requires.tables
+    ap (λ ts. summary_of (length lines) ts c.in_ok-answers.counts) c.requires.runnable.tables
     ∙ ap (λ cs. summary_of (length lines) (tables_named (commands_of lines)) cs) c.in_ok-answers.ensures.counts in
     done_by_print replies plan old new _ _ text c.print_summary.result written is_summary c.print_summary.ensures.printed
 
@@ -93,7 +89,7 @@ returns-clause-stops g c =
     let old = g.S.Shelf.files c.args.shelf.now in
     let made = g.S.Shelf.files c.create.new.shelf in
     let mid = g.S.Shelf.files c.append.new.shelf in
-    let replies = c.args.accepted.now.replies in
+    let replies = c.args.replies.now in
     let lines = c.args.accepted.now.script in
     let loads = c.args.accepted.now.loads in
     let plan = plan_of lines loads in
@@ -103,9 +99,9 @@ returns-clause-stops g c =
     let exports = c.deref-2.result.now in
     let is_exports : exports ≡ exports_of plan = c.deref-2.ensures.value ∙ c.in_ok-answers.ensures.exports in
     let new = g.S.Shelf.files c.write_exports.new.shelf in
-    let written = all_written replies lines loads exports old mid new c.requires.within is_exports first c.in_ok-write_exports.ensures.written in
+    let written = all_written replies lines loads exports old mid new (within_here c.args.accepted.now c.args.replies.now c.requires.runnable c.requires.replies) is_exports first c.in_ok-write_exports.ensures.written in
     let text = summary_of (length lines) c.args.accepted.now.tables c.in_ok-answers.counts in
     let is_summary : text ≡ summary plan =
-    ap (λ ts. summary_of (length lines) ts c.in_ok-answers.counts) c.requires.tables
+    ap (λ ts. summary_of (length lines) ts c.in_ok-answers.counts) c.requires.runnable.tables
     ∙ ap (λ cs. summary_of (length lines) (tables_named (commands_of lines)) cs) c.in_ok-answers.ensures.counts in
     broken_by_print replies plan old new _ _ text _ _ c.print_summary.result written is_summary c.print_summary.ensures.stops
