@@ -7,3 +7,4 @@ pub mod Seeking
 pub mod Passing
 pub mod Levels
 pub mod Counts
+pub mod Blanks

@@ -3,7 +3,7 @@ use Rattle.std.proofs.Common.{◌≡◌, ℕ, ◌+◌, ◌<◌, ◌≤◌, Bool,
 use Rattle.std.proofs.lemmas.Bool.{le-leb, lt-leb}
 use native.Mathlib.Decide.{dec_lt}
 use mathlib.Core.Logic.{dite}
-use Rattle.snap_rule.specs.Tree.{Tree, Between, find}
+use Rattle.snap_rule.specs.Tree.{Tree, Node, Between, find}
 use Rattle.snap_rule.specs.Tree.Tree.{empty, node}
 use Rattle.snap_rule.proofs.Trees.{child, find_here, find_toward}
 use Rattle.snap_stamp.specs.Sides.{Toward, other}
@@ -52,33 +52,33 @@ nearest_in side from low high (node n a b) h = go (on (turn side from n.key) (ne
     go None i false = tt
 
 -- a row below a node lies on its side
-abbrev Stays : ℕ → Side → Option (ℕ × Option ℕ) → Type 0
+abbrev pub Stays : ℕ → Side → Option (ℕ × Option ℕ) → Type 0
 Stays key d None = Unit {0}
 Stays key d (Some p) = Toward d p.0 key
+
+stays_left : (key low : ℕ) (o : Option (ℕ × Option ℕ)) → LiesIn low key o → Stays key Left o
+stays_left key low None i = tt
+stays_left key low (Some p) i = i.1
+
+stays_right : (key high : ℕ) (o : Option (ℕ × Option ℕ)) → LiesIn (key + 1) high o → Stays key Right o
+stays_right key high None i = tt
+stays_right key high (Some p) i = omega (arith, i.0)
+
+pub row_stays : (side : Side) (from low high : ℕ) (n : Node) (a b : Tree) → Between low high (node n a b) → (d : Side) → Stays n.key d (on d (nearest_row side from a) (nearest_row side from b))
+row_stays side from low high n a b h Left = stays_left n.key low (nearest_row side from a) (nearest_in side from low n.key a h.2)
+row_stays side from low high n a b h Right = stays_right n.key high (nearest_row side from b) (nearest_in side from (n.key + 1) high b h.3)
 
 -- it is nearest
 pub nearest_is : (side : Side) (from low high : ℕ) (t : Tree) → Between low high t → IsNearest (find t) side from (nearest_row side from t)
 nearest_is side from low high empty h = λ k l. refl
 nearest_is side from low high (node n a b) h = let left = nearest_is side from low n.key a h.2 in let right = nearest_is side from (n.key + 1) high b h.3 in elim (reaches_tells side from n.key) [
-  | inl r ↦ rw r.0 (reached r.1 (on (other side) (nearest_row side from a) (nearest_row side from b)) (below (other side) left right) (lies (other side)))
+  | inl r ↦ rw r.0 (reached r.1 (on (other side) (nearest_row side from a) (nearest_row side from b)) (below (other side) left right) (row_stays side from low high n a b h (other side)))
   | inr r ↦ rw r.0 (not_reached r.1 (on side (nearest_row side from a) (nearest_row side from b)) (below side left right))
 ]
   where
     below : (d : Side) → IsNearest (find a) side from (nearest_row side from a) → IsNearest (find b) side from (nearest_row side from b) → IsNearest (find (child d a b)) side from (on d (nearest_row side from a) (nearest_row side from b))
     below Left l r = l
     below Right l r = r
-
-    stays_left : (o : Option (ℕ × Option ℕ)) → LiesIn low n.key o → Stays n.key Left o
-    stays_left None i = tt
-    stays_left (Some p) i = i.1
-
-    stays_right : (o : Option (ℕ × Option ℕ)) → LiesIn (n.key + 1) high o → Stays n.key Right o
-    stays_right None i = tt
-    stays_right (Some p) i = omega (arith, i.0)
-
-    lies : (d : Side) → Stays n.key d (on d (nearest_row side from a) (nearest_row side from b))
-    lies Left = stays_left (nearest_row side from a) (nearest_in side from low n.key a h.2)
-    lies Right = stays_right (nearest_row side from b) (nearest_in side from (n.key + 1) high b h.3)
 
     reached : Reaches side from n.key → (o : Option (ℕ × Option ℕ)) → IsNearest (find (child (other side) a b)) side from o → Stays n.key (other side) o → IsNearest (find (node n a b)) side from (or_else o (Some (n.key, n.value)))
     reached r None near s = record {

@@ -5,7 +5,7 @@ use mathlib.Core.Logic.{dite}
 use Rattle.snap_stamp.specs.Sides.{Toward}
 use Rattle.snap_stamp.specs.declared.side.Side.{Side}
 use Rattle.snap_stamp.specs.declared.side.Side.TheVariants.{Left, Right}
-use Rattle.snap_view.specs.Nearest.{Reaches, IsNearest, IsNearestAt, IsNearestPair, IsBehind}
+use Rattle.snap_view.specs.Nearest.{Reaches, IsNearest, IsNearestAt, IsBehind}
 
 -- how many keys lie ahead
 abbrev pub keys_ahead : Side → Option ℕ → ℕ
@@ -41,15 +41,6 @@ module _ (has : ℕ → Option ℕ) (side : Side) (from key : ℕ) (passed : Has
   none_up_to row value near k l t = elim (either_side side key k) [
     | inl b ↦ passed.none k l b
     | inr r ↦ near.nearer k r t
-  ]
-
-  pub found_pair : (row value : ℕ) → IsNearest has side key (Some (row, Some value)) → IsNearestPair has side from (Some (row, value))
-  found_pair row value near = record { lies = further side from key row passed.ahead near.lies; is = near.is; nearer = none_up_to row (Some value) near }
-
-  pub found_none : IsNearest has side key None → IsNearestPair has side from None
-  found_none near k b l = elim (either_side side key k) [
-    | inl t ↦ passed.none k l t
-    | inr r ↦ near k r
   ]
 
   -- and up to a row without a value

@@ -1,7 +1,8 @@
 //! The row of a clone that is nearest to a key, on one side of it.
-ghost use Rattle.std.specs.Prelude.{◌≡◌, ◌≤◌, ◌+◌, ◌-◌, ◌^◌, ◌<◌, min};
+ghost use Rattle.std.specs.Prelude.{◌≡◌, ◌≤◌, ◌+◌, ◌-◌, ◌*◌, ◌^◌, ◌<◌, min};
 ghost use Rattle.snap_model.specs.History.{after};
 ghost use Rattle.snap_model.specs.SortedMap.{at};
+ghost use Rattle.snap_rule.specs.Settled.{IsSettledTree};
 ghost use Rattle.snap_rule.specs.Tree.{depth};
 ghost use Rattle.snap_stamp.specs.declared.side.Side.TheVariants.{Right};
 ghost use Rattle.snap_steps.specs.Clones.{image, IsCloneOf};
@@ -50,6 +51,7 @@ impl<'t> TableView<'t> {
         steps: &mut Steps<L>,
     ) -> Option<(Key, Option<u64>)>
         ensures nearest { IsNearest (at (after self.old.base)) side from result }
+        ensures row { result ≡ nearest_row side from (image self.old) }
         ensures clone { IsCloneOf self.old.base (image self.old) }
         ensures view { self.new ≡ self.old }
         ensures steps { steps.new ≤ steps.old + depth (image self.old) }
@@ -67,6 +69,7 @@ impl<'t> TableView<'t> {
         ensures nearest { IsNearestPair (at (after self.old.base)) side from result }
         ensures clone { IsCloneOf self.old.base (image self.old) }
         ensures view { self.new ≡ self.old }
+        ensures steps { IsSettledTree (image self.old) → steps.new ≤ steps.old + 2 * depth (image self.old) }
     {
         let _rows = self.rows;
         let mut next = Some(from);

@@ -1,7 +1,11 @@
-//! The ordered answers of a clone.
-ghost use Rattle.std.specs.Prelude.{◌≡◌};
+//! The ordered answers of a clone. Where its tree is settled each goes down at most twice: past a row without a value
+//! the next row has one.
+ghost use Rattle.std.specs.Prelude.{◌≡◌, ◌≤◌, ◌+◌, ◌*◌};
 ghost use Rattle.snap_model.specs.History.{after};
 ghost use Rattle.snap_model.specs.SortedMap.{first_pair, last_pair, floor, lower, ceiling, higher};
+ghost use Rattle.snap_rule.specs.Settled.{IsSettledTree};
+ghost use Rattle.snap_rule.specs.Tree.{depth};
+ghost use Rattle.snap_steps.specs.Clones.{image};
 
 use crate::table_view::TableView;
 use crate::way::behind;
@@ -14,6 +18,7 @@ impl<'t> TableView<'t> {
     pub fn first<L: Ledger>(&mut self, steps: &mut Steps<L>) -> Option<(Key, u64)>
         ensures first { result ≡ first_pair (after self.old.base) }
         ensures view { self.new ≡ self.old }
+        ensures steps { IsSettledTree (image self.old) → steps.new ≤ steps.old + 2 * depth (image self.old) }
     {
         self.nearest_pair(Side::Right, 0, steps)
     }
@@ -22,6 +27,7 @@ impl<'t> TableView<'t> {
     pub fn last<L: Ledger>(&mut self, steps: &mut Steps<L>) -> Option<(Key, u64)>
         ensures last { result ≡ last_pair (after self.old.base) }
         ensures view { self.new ≡ self.old }
+        ensures steps { IsSettledTree (image self.old) → steps.new ≤ steps.old + 2 * depth (image self.old) }
     {
         self.nearest_pair(Side::Left, Key::MAX, steps)
     }
@@ -30,6 +36,7 @@ impl<'t> TableView<'t> {
     pub fn floor<L: Ledger>(&mut self, key: Key, steps: &mut Steps<L>) -> Option<(Key, u64)>
         ensures floor { result ≡ floor (after self.old.base) key }
         ensures view { self.new ≡ self.old }
+        ensures steps { IsSettledTree (image self.old) → steps.new ≤ steps.old + 2 * depth (image self.old) }
     {
         self.nearest_pair(Side::Left, key, steps)
     }
@@ -38,6 +45,7 @@ impl<'t> TableView<'t> {
     pub fn lower<L: Ledger>(&mut self, key: Key, steps: &mut Steps<L>) -> Option<(Key, u64)>
         ensures lower { result ≡ lower (after self.old.base) key }
         ensures view { self.new ≡ self.old }
+        ensures steps { IsSettledTree (image self.old) → steps.new ≤ steps.old + 2 * depth (image self.old) }
     {
         let before = behind(Side::Left, key)?;
         self.nearest_pair(Side::Left, before, steps)
@@ -47,6 +55,7 @@ impl<'t> TableView<'t> {
     pub fn ceiling<L: Ledger>(&mut self, key: Key, steps: &mut Steps<L>) -> Option<(Key, u64)>
         ensures ceiling { result ≡ ceiling (after self.old.base) key }
         ensures view { self.new ≡ self.old }
+        ensures steps { IsSettledTree (image self.old) → steps.new ≤ steps.old + 2 * depth (image self.old) }
     {
         self.nearest_pair(Side::Right, key, steps)
     }
@@ -55,6 +64,7 @@ impl<'t> TableView<'t> {
     pub fn higher<L: Ledger>(&mut self, key: Key, steps: &mut Steps<L>) -> Option<(Key, u64)>
         ensures higher { result ≡ higher (after self.old.base) key }
         ensures view { self.new ≡ self.old }
+        ensures steps { IsSettledTree (image self.old) → steps.new ≤ steps.old + 2 * depth (image self.old) }
     {
         let _rows = self.rows;
         let next = behind(Side::Right, key)?;
