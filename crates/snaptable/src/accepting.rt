@@ -11,7 +11,7 @@ ghost use Rattle.snaptable.specs.Runnable.{IsRunnable};
 
 use crate::generating::make_script;
 use crate::loading::{read_lines, read_loads};
-use crate::needs::{Needs, NeedsFault, needs_of};
+use crate::needs::{Needs, NeedsFault, first_tables, needs_of};
 use crate::outcome::Stop;
 use crate::words::{Job, NameList, Work, read_words};
 use snap_io::Shelf;
@@ -127,8 +127,7 @@ fn accept_made(
     ensures runnable { IfOk result IsRunnable }
 {
     let script = make_script(alloc, commands, seed, workers, 0)?;
-    let mut tables = NameList::new(alloc);
-    tables.add(Name::new(alloc, "main")?)?;
+    let tables = first_tables(alloc)?;
     Ok(Accepted {
         script,
         replies: None,
