@@ -1,4 +1,4 @@
-use Rattle.std.proofs.Common.{◌++◌, ◌∷◌, [], ◌∙◌, ap, sym, subst, take}
+use Rattle.std.proofs.Common.{◌∙◌, ap, sym, subst, take}
 use Rattle.std.specs.Prelude.{◌||◌, bytes_eq}
 use Rattle.std.specs.BTreeSet.{contains_text}
 use Rattle.snaptable.specs.Needs.{commands_of}
@@ -10,9 +10,9 @@ use Rattle.snaptable.proofs.needs.needs_of.Goals as goal
 pub loop-line-init : goal.loop-line-init
 loop-line-init c = record {
   needs = record {
-    tables = c.in_ok-add.ensures.ok ∙ ap (λ names. names ++ c.in_ok-new.field-0 ∷ []) c.new.ensures ∙ ap (λ name. name ∷ []) c.in_ok-new.ensures;
-    loads = c.new-2.ensures;
-    taken = λ name. c.in_ok-add-2.ensures.names name ∙ ap (λ b. b || bytes_eq c.args.replies.now name) (c.new-outputs.ensures name) ∙ sym (or_false (bytes_eq c.args.replies.now name));
+    tables = c.in_ok-first_tables.ensures;
+    loads = c.new.ensures;
+    taken = λ name. c.in_ok-add.ensures.names name ∙ ap (λ b. b || bytes_eq c.args.replies.now name) (c.new-outputs.ensures name) ∙ sym (or_false (bytes_eq c.args.replies.now name));
   };
   left = left_first c.args.replies.now c.args.script.now;
 }
