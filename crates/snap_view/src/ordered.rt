@@ -1,5 +1,5 @@
-//! The ordered answers of a clone. Where its tree is settled each goes down at most twice: past a row without a value
-//! the next row has one.
+//! The ordered answers of a clone. Where its tree is settled each goes down at most twice, since past a row without a
+//! value the next row has one.
 ghost use Rattle.std.specs.Prelude.{◌≡◌, ◌≤◌, ◌+◌, ◌*◌};
 ghost use Rattle.snap_model.specs.History.{after};
 ghost use Rattle.snap_model.specs.SortedMap.{first_pair, last_pair, floor, lower, ceiling, higher};
@@ -14,7 +14,8 @@ use snap_steps::Steps;
 use std::sync::ledger::Ledger;
 
 impl<'t> TableView<'t> {
-    /// The pair with the least key.
+    /// The pair with the least key. Where the clone's tree is settled it is found by two ways down at most, and so are
+    /// those of the calls below; else each row without a value that is passed costs one more.
     pub fn first<L: Ledger>(&mut self, steps: &mut Steps<L>) -> Option<(Key, u64)>
         ensures first { result ≡ first_pair (after self.old.base) }
         ensures view { self.new ≡ self.old }
