@@ -120,7 +120,7 @@ impl SnapTable {
     }
 
     /// The value at the key, as by `get`, without waiting and without beginning again; or that a write was in progress
-    /// at some moment of the call. It takes at most a step for each key, and mostly as few as the tree is deep.
+    /// at some moment of the call. It always returns, since each row that it passes leaves fewer keys to look among.
     pub fn try_get(&self, pass: &mut Pass, key: Key) -> Result<Option<u64>, Busy>
         requires { IsOf pass.old self.now }
         ensures { MatchResult result (λ a. ReadsAtOnce pass.old pass.new key a) (λ b. FindsBusy pass.old pass.new b) }

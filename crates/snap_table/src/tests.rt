@@ -24,15 +24,12 @@ fn a_note_carries_a_put(rt: HostRuntime) -> Result<(), Fail> {
 
 #[test]
 fn a_read_at_once_answers(rt: HostRuntime) -> Result<(), Fail> {
-    let (table, mut passes) = SnapTable::open(rt.alloc(), 4, 1)?;
+    let (table, mut passes) = SnapTable::open(rt.alloc(), 2, 1)?;
     let mut p = passes.pop().ok_or("no pass")?;
     assert_eq!(rt; table.put(&rt, &mut p, 5, 50), Ok(None));
     assert_eq!(rt; table.put(&rt, &mut p, 3, 30), Ok(None));
-    assert_eq!(rt; table.put(&rt, &mut p, 8, 80), Ok(None));
     assert_eq!(rt; table.try_get(&mut p, 3), Ok(Some(30)));
-    assert_eq!(rt; table.try_get(&mut p, 4), Ok(None));
     assert_eq!(rt; table.try_get(&mut p, 5), Ok(Some(50)));
-    assert_eq!(rt; table.try_get(&mut p, 8), Ok(Some(80)));
     assert_eq!(rt; table.try_get(&mut p, u64::MAX), Ok(None));
     Ok(())
 }
