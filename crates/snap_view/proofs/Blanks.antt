@@ -7,7 +7,7 @@ use Rattle.snap_rule.specs.Tree.Tree.{empty, node}
 use Rattle.snap_stamp.specs.Sides.{Toward, other}
 use Rattle.snap_stamp.specs.declared.side.Side.{Side}
 use Rattle.snap_stamp.specs.declared.side.Side.TheVariants.{Left, Right}
-use Rattle.snap_view.specs.Nearest.{reaches, IsBehind, on, or_else, nearest_row}
+use Rattle.snap_view.specs.Nearest.{ReachesAll, reaches, IsBehind, on, or_else, nearest_row}
 use Rattle.snap_view.proofs.Nearing.{reaches_tells, Stays, row_stays}
 
 -- it is a row with a value
@@ -101,23 +101,36 @@ after_blank side from next k low high (node n a b) h s e bh =
         let stays : Toward side k n.key = subst (Stays n.key side) (is ∙ e) (row_stays side from low high n a b h side) in
         rw (missed side next n.key (outside side k n.key next stays bh)) (valued_or (on side (nearest_row side next a) (nearest_row side next b)) None (below side l r (is ∙ e)))
 
--- a search has gone no way yet, or one, and then a row with a value is next
+-- where every key is reached the nearest row has a value
+covers : (side : Side) (from : ℕ) → ReachesAll side from → Covers side from 0 (2 ^ 64)
+covers Left from all = let m = all 18446744073709551615 (omega arith) in omega (arith, m)
+covers Right from all = all 0 (omega arith)
+
+outmost : (t : Tree) → Between 0 (2 ^ 64) t → IsSettledTree t → (side : Side) (from row : ℕ) → Some (row, None) ≡ nearest_row side from t → ReachesAll side from → ⊥
+outmost empty h s side from row is all = absurd (let z : Some (row, None) ≡ None = is in cc z)
+outmost (node n a b) h s side from row is all = subst IsValued (sym is) (whole_valued side from 0 (2 ^ 64) (node n a b) h s tt (covers side from all))
+
+-- a search has gone no way yet, or one, which began behind some keys, and then a row with a value is next
 abbrev IsAhead : Tree → Side → Option ℕ → Type 0
 IsAhead t side None = Unit {0}
 IsAhead t side (Some next) = IsValued (nearest_row side next t)
 
-abbrev pub HasSpent : Tree → Side → Option ℕ → ℕ → ℕ → Type 0
-HasSpent t side next before now = IsSettledTree t → (now ≤ before) ⊎ ((now ≤ before + depth t) × IsAhead t side next)
+abbrev pub HasSpent : Tree → Side → ℕ → Option ℕ → ℕ → ℕ → Type 0
+HasSpent t side from next before now = IsSettledTree t → ((now ≤ before) × (next ≡ Some from)) ⊎ ((now ≤ before + depth t) × IsAhead t side next × ¬ ReachesAll side from)
 
-pub spent_none : (t : Tree) (side : Side) (next : Option ℕ) (before : ℕ) → HasSpent t side next before before
-spent_none t side next before s = inl (omega arith)
+pub spent_none : (t : Tree) (side : Side) (from before : ℕ) → HasSpent t side from (Some from) before before
+spent_none t side from before s = inl (omega arith, refl)
 
-pub spent_on : (t : Tree) → Between 0 (2 ^ 64) t → (side : Side) (key row : ℕ) (next : Option ℕ) (before now now' : ℕ) → HasSpent t side (Some key) before now → Some (row, None) ≡ nearest_row side key t → IsBehind side row next → now' ≤ now + depth t → HasSpent t side next before now'
-spent_on t h side key row next before now now' spent is behind l settled = elim (spent settled) [
-  | inl none ↦ inr (omega arith, ahead next behind)
+pub spent_on : (t : Tree) → Between 0 (2 ^ 64) t → (side : Side) (from key row : ℕ) (next : Option ℕ) (before now now' : ℕ) → HasSpent t side from (Some key) before now → Some (row, None) ≡ nearest_row side key t → IsBehind side row next → now' ≤ now + depth t → HasSpent t side from next before now'
+spent_on t h side from key row next before now now' spent is behind l settled = elim (spent settled) [
+  | inl none ↦ (let low = none.0 in inr (omega arith, ahead next behind, outmost t h settled side from row (subst (λ (k : Option ℕ). Some (row, None) ≡ nearest_row side (key_of k) t) none.1 is)))
   | inr one ↦ absurd (subst IsValued (sym is) one.1)
 ]
   where
+    key_of : Option ℕ → ℕ
+    key_of None = 0
+    key_of (Some k) = k
+
     ahead : (o : Option ℕ) → IsBehind side row o → IsAhead t side o
     ahead None b = tt
     ahead (Some n) b = after_blank side key n row 0 (2 ^ 64) t h settled (sym is) b

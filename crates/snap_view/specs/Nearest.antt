@@ -15,6 +15,10 @@ abbrev pub reaches : Side → ℕ → ℕ → Bool
 reaches Left from key = nat_le key from
 reaches Right from key = nat_le from key
 
+-- every key of 64 bits lies so
+abbrev pub ReachesAll : Side → ℕ → Type 0
+ReachesAll side from = (k : ℕ) → k < 2 ^ 64 → Reaches side from k
+
 -- the key lies so and has this value or none, and the keys that lie nearer have none
 pub record IsNearestAt (has : ℕ → Option ℕ) (side : Side) (from key : ℕ) (value : Option ℕ) : Type 0 where
   pub lies : Reaches side from key

@@ -6,7 +6,7 @@ ghost use Rattle.snap_rule.specs.Settled.{IsSettledTree};
 ghost use Rattle.snap_rule.specs.Tree.{depth};
 ghost use Rattle.snap_stamp.specs.declared.side.Side.TheVariants.{Right};
 ghost use Rattle.snap_steps.specs.Clones.{image, IsCloneOf};
-ghost use Rattle.snap_view.specs.Nearest.{IsNearest, IsNearestPair, nearest_row, levels};
+ghost use Rattle.snap_view.specs.Nearest.{IsNearest, IsNearestPair, ReachesAll, nearest_row, levels};
 
 use crate::table_view::TableView;
 use crate::way::{WayDown, behind, below, nearer};
@@ -70,6 +70,7 @@ impl<'t> TableView<'t> {
         ensures clone { IsCloneOf self.old.base (image self.old) }
         ensures view { self.new ≡ self.old }
         ensures steps { IsSettledTree (image self.old) → steps.new ≤ steps.old + 2 * depth (image self.old) }
+        ensures end { IsSettledTree (image self.old) → ReachesAll side from → steps.new ≤ steps.old + depth (image self.old) }
     {
         let _rows = self.rows;
         let mut next = Some(from);

@@ -19,7 +19,7 @@ impl<'t> TableView<'t> {
     pub fn first<L: Ledger>(&mut self, steps: &mut Steps<L>) -> Option<(Key, u64)>
         ensures first { result ≡ first_pair (after self.old.base) }
         ensures view { self.new ≡ self.old }
-        ensures steps { IsSettledTree (image self.old) → steps.new ≤ steps.old + 2 * depth (image self.old) }
+        ensures steps { IsSettledTree (image self.old) → steps.new ≤ steps.old + depth (image self.old) }
     {
         self.nearest_pair(Side::Right, 0, steps)
     }
@@ -28,7 +28,7 @@ impl<'t> TableView<'t> {
     pub fn last<L: Ledger>(&mut self, steps: &mut Steps<L>) -> Option<(Key, u64)>
         ensures last { result ≡ last_pair (after self.old.base) }
         ensures view { self.new ≡ self.old }
-        ensures steps { IsSettledTree (image self.old) → steps.new ≤ steps.old + 2 * depth (image self.old) }
+        ensures steps { IsSettledTree (image self.old) → steps.new ≤ steps.old + depth (image self.old) }
     {
         self.nearest_pair(Side::Left, Key::MAX, steps)
     }

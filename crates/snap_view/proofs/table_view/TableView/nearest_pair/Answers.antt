@@ -9,7 +9,7 @@ use Rattle.snap_view.proofs.Passing.{HasPassed, keys_ahead, passed_none, passed_
 use Rattle.snap_view.proofs.table_view.TableView.nearest_pair.Goals as goal
 
 pub loop-next-init : goal.loop-next-init
-loop-next-init g c = (refl, passed_none (at (after c.args.self.now.base)) c.args.side c.args.from c.ranges.from.fits, spent_none (image c.args.self.now) c.args.side (Some c.args.from) c.args.steps.now)
+loop-next-init g c = (refl, passed_none (at (after c.args.self.now.base)) c.args.side c.args.from c.ranges.from.fits, spent_none (image c.args.self.now) c.args.side c.args.from c.args.steps.now)
 
 pub loop-next-smaller : goal.loop-next-smaller
 loop-next-smaller g c =
@@ -26,13 +26,13 @@ loop-next-preserved g c =
     let none = subst (λ (o : Option ℕ). IsNearest has c.args.side c.in-Some.key (Some (c.in_ok-row.row, o))) c.in_default-value.is near in
     let t : Tree = image c.args.self.now in
     let ordered = subst (λ (k : Cloned). Between 0 (2 ^ 64) (image k)) c.self.view_is c.self.invariant.clone.ordered in
-    let spent = subst (λ (o : Option ℕ). HasSpent t c.args.side o c.args.steps.now c.loop-next.steps) c.in-Some.is c.loop-next.invariant.2 in
+    let spent = subst (λ (o : Option ℕ). HasSpent t c.args.side c.args.from o c.args.steps.now c.loop-next.steps) c.in-Some.is c.loop-next.invariant.2 in
     let told = subst (λ (k : Cloned). Some (c.in_ok-row.row, c.in_ok-row.value) ≡ nearest_row c.args.side c.in-Some.key (image k)) c.loop-next.invariant.0 c.in_ok-row.ensures.row in
     let row = subst (λ (o : Option ℕ). Some (c.in_ok-row.row, o) ≡ nearest_row c.args.side c.in-Some.key t) c.in_default-value.is told in
     let read = subst (λ (k : Cloned). c.nearest.new.steps ≤ c.loop-next.steps + depth (image k)) c.loop-next.invariant.0 c.in_ok-row.ensures.steps in (
       c.in_ok-row.ensures.view ∙ c.loop-next.invariant.0,
       passed_on has c.args.side c.args.from c.in-Some.key passed c.in_ok-row.row c.behind-next.result none c.behind-next.ensures,
-      spent_on t ordered c.args.side c.in-Some.key c.in_ok-row.row c.behind-next.result c.args.steps.now c.loop-next.steps c.nearest.new.steps spent row c.behind-next.ensures read,
+      spent_on t ordered c.args.side c.args.from c.in-Some.key c.in_ok-row.row c.behind-next.result c.args.steps.now c.loop-next.steps c.nearest.new.steps spent row c.behind-next.ensures read,
     )
 
 pub returns-clause-nearest : goal.returns-clause-nearest
