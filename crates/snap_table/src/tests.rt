@@ -2,6 +2,7 @@
 ghost use Rattle.snap_table.specs.Ready.{IsReadyTo};
 
 mod clones;
+mod ordered;
 
 use crate::{Full, Pass, SnapTable};
 use std::sync::Wait;
