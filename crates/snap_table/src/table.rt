@@ -34,7 +34,7 @@ use std::sync::Wait;
 /// passes at once. Contracts see the table's identity and size.
 #[derive(Drop)]
 pub struct SnapTable {
-    rows: Rows,
+    pub(crate) rows: Rows,
 }
 
 impl Model for SnapTable {

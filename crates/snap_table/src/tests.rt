@@ -2,6 +2,7 @@
 ghost use Rattle.snap_table.specs.Ready.{IsReadyTo};
 
 mod clones;
+mod stopped;
 
 use crate::{Full, Pass, SnapTable};
 use std::sync::Wait;
