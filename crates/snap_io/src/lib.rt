@@ -6,18 +6,18 @@
 
 mod disk_shelf;
 mod failed;
+mod hold_turn;
 mod mem_shelf;
 mod mem_sink;
 mod plan;
 mod shelf;
 mod sink;
 mod std_sink;
-#[cfg(test)]
-mod tests;
 mod turn;
 
 pub use disk_shelf::DiskShelf;
 pub use failed::Failed;
+pub use hold_turn::HoldTurn;
 pub use mem_shelf::{MemShelf, ShelfOp};
 pub use mem_sink::MemSink;
 pub use shelf::Shelf;

@@ -1,7 +1,9 @@
+mod debug;
+
 use crate::{Key, Name};
 
 /// A command of a script. A `slot` is the place of a live clone in its session, from 0 to 63.
-#[derive(Debug, Drop)]
+#[derive(Drop)]
 pub enum Command {
     /// Goes on with the table of this name.
     Table {

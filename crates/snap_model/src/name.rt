@@ -40,18 +40,3 @@ impl Name {
         self.text() == other.text()
     }
 }
-
-#[cfg(test)]
-mod tests {
-    use super::*;
-    use std::test::Fail;
-
-    #[test]
-    fn names_are_their_bytes(rt: HostRuntime) -> Result<(), Fail> {
-        let name = Name::new(rt.alloc(), "main")?;
-        assert_eq!(rt; name.text(), "main");
-        assert!(rt; name.same(&Name::new(rt.alloc(), "main")?));
-        assert!(rt; !name.same(&Name::new(rt.alloc(), "Main")?));
-        Ok(())
-    }
-}

@@ -179,6 +179,3 @@ fn count_up_to(pairs: &[(Key, u64)], key: Key) -> usize
 {
     pairs.partition_point(|pair| pair.0 <= key)
 }
-
-#[cfg(test)]
-mod tests;

@@ -1,7 +1,9 @@
 mod Ascii
+mod Asking
 mod Costs
 mod Digits
 mod Fields
+mod Files
 mod Loading
 mod Reading
 mod Records

@@ -1,15 +1,22 @@
 -- How a load file is read, record by record.
-use Rattle.std.proofs.Common.{◌≡◌, ◌≤◌, ◌<◌, ◌+◌, ◌*◌, ◌++◌, ◌∙◌, ◌&&◌, ℕ, List, [], ◌∷◌, Bool, true, false, Option, Some, None, Ok, Err, length, map, sym, ap, refl, inl, inr, cond, append_assoc, arith}
-use Rattle.std.specs.Prelude.{bytes_eq, codes}
+use Rattle.std.proofs.Common.{◌≡◌, ◌≤◌, ◌<◌, ◌+◌, ◌*◌, ◌++◌, ◌∙◌, ◌&&◌, ℕ, List, [], ◌∷◌, Bool, true, false, Option, Some, None, Result, Ok, Err, length, map, sym, ap, refl, inl, inr, cond, append_assoc, arith}
+use Rattle.std.proofs.lemmas.List.Elements.{All-push}
+use Rattle.std.specs.Prelude.{All, bytes_eq, codes}
 use Rattle.std.proofs.lemmas.Bool.{false≢true, le-ltb, lt-ltb}
 use Rattle.std.proofs.lemmas.Slice.Eq.{bytes_eq-Decides}
-use Rattle.csv.specs.Reading.{Reached, default_config, is_bom, strip_bom}
+use Rattle.csv.specs.Reading.{FlexibleStep, Reached, RowStep, default_config, is_bom, owned_rows_left, owned_rows_reader, reader_state, strip_bom}
+use Rattle.csv.specs.Records.{fields_of}
+use Rattle.csv.specs.declared.error.Error.{Error}
 use Rattle.csv.specs.declared.parser.State.{State}
 use Rattle.csv.specs.declared.parser.State.TheVariants as st
+use Rattle.csv.specs.declared.record.ByteRecord.{ByteRecord}
+use Rattle.snap_text.specs.declared.fault.PairsFault.{PairsFault}
 use Rattle.snap_text.specs.declared.fault.PairsFault.TheVariants as fault
+use Rattle.snap_text.specs.Csv.{Adds, IsReading, IsRefused}
 use Rattle.snap_text.specs.Loads.{Fields, both, is_header, load_of, most_load_bytes, most_pairs, pair_of, pairs_from, records_of, under_header}
-use Rattle.snap_text.specs.Numbers.{greatest_key, number_of}
-use Rattle.snap_text.proofs.Costs.{Begin, all_pay, size, sizes}
+use Rattle.snap_text.specs.Numbers.{FitsValue, greatest_key, number_of}
+use Rattle.snap_text.proofs.Costs.{Begin, all_pay, first_records, size, sizes}
+use Rattle.snap_text.proofs.Records.{Rows, known, one_more_row}
 
 -- these records are the header and these pairs
 pub record AreHeaderAndPairs (rows : List Fields) (pairs : List (ℕ × ℕ)) : Type 0 where
@@ -66,16 +73,12 @@ pub too_long : (bytes : List ℕ) → most_load_bytes < length bytes → load_of
 unfolding load_of
 too_long bytes over = rw (lt-ltb most_load_bytes (length bytes) over) refl
 
-not_too_long : (bytes : List ℕ) → length bytes ≤ most_load_bytes → load_of bytes ≡ under_header (records_of bytes)
+pub not_too_long : (bytes : List ℕ) → length bytes ≤ most_load_bytes → load_of bytes ≡ under_header (records_of bytes)
 unfolding load_of
 not_too_long bytes few = rw (le-ltb most_load_bytes (length bytes) few) refl
 
-pub no_record : (bytes : List ℕ) → length bytes ≤ most_load_bytes → records_of bytes ≡ [] → load_of bytes ≡ Err (fault.Record 1)
-no_record bytes few none = not_too_long bytes few ∙ ap under_header none
-
-pub no_header : (bytes : List ℕ) (first : Fields) → length bytes ≤ most_load_bytes → Begin (first ∷ []) (records_of bytes) → is_header first ≡ false
-    → load_of bytes ≡ Err (fault.Record 1)
-no_header bytes first few begin other = not_too_long bytes few ∙ ap under_header begin.is ∙ rw other refl
+pub no_header : (bytes : List ℕ) (first : Fields) → Begin (first ∷ []) (records_of bytes) → is_header first ≡ false → under_header (records_of bytes) ≡ Err (fault.Record 1)
+no_header bytes first begin other = ap under_header begin.is ∙ rw other refl
 
 pub refused : (bytes : List ℕ) (rows : List Fields) (pairs : List (ℕ × ℕ)) (row : Fields) (number : ℕ) → length bytes ≤ most_load_bytes
     → AreHeaderAndPairs rows pairs → Begin (rows ++ row ∷ []) (records_of bytes) → None ≡ pair_of row → number ≡ length pairs + 2
@@ -149,3 +152,36 @@ few_pairs bytes rows pairs s ys few h reached =
     let header = header_size h.header h.is_first in
     let pair = pairs_size h.below pairs h.same in
     elim paid.paid [ inl cost ↦ omega (arith, cost, short, few, all, header, pair) | inr last ↦ omega (arith, last.2, short, few, all, header, pair) ]
+
+-- a step below the header: a record's pair is added, or the record is refused
+abbrev pub Steps : Rows → Rows → Result ByteRecord Error → Type 0
+Steps a b row = RowStep known (owned_rows_reader a) (owned_rows_reader b) (owned_rows_left b) (Some row)
+    × FlexibleStep (owned_rows_reader a) (owned_rows_reader b) (Some row)
+
+abbrev pub AllFit : List (ℕ × ℕ) → Type 0
+AllFit pairs = All (λ (pair : ℕ × ℕ). FitsValue pair.1) pairs
+
+pub pair_added : (text : List ℕ) (rows : List Fields) (pairs new : List (ℕ × ℕ)) (a b : Rows) (row : Result ByteRecord Error)
+    → IsReading text rows a → AreHeaderAndPairs rows pairs → AllFit pairs → Steps a b row → Adds row pairs new
+    → (more : List Fields) × IsReading text more b × AreHeaderAndPairs more new × AllFit new
+pair_added text rows pairs new a b (Err error) h are fit steps adds = absurd adds
+pair_added text rows pairs new a b (Ok found) h are fit steps adds =
+    let fields = fields_of found in
+    let read = steps.0 in
+    let (pair, is, fits, same) = adds in (
+      rows ++ fields ∷ [],
+      one_more_row text rows a b fields h read.0 read.1 read.2 steps.1,
+      rw same (one_more rows pairs fields pair are (sym is)),
+      rw same (All-push (λ (pair : ℕ × ℕ). FitsValue pair.1) pairs pair fit fits),
+    )
+
+pub pair_refused : (bytes : List ℕ) (rows : List Fields) (pairs : List (ℕ × ℕ)) (a b : Rows) (row : Result ByteRecord Error) (why : PairsFault)
+    → length bytes ≤ most_load_bytes → IsReading (strip_bom bytes) rows a → AreHeaderAndPairs rows pairs → Steps a b row → IsRefused row (length pairs + 2) why
+    → load_of bytes ≡ Err why
+pair_refused bytes rows pairs a b (Err error) why few h are steps is = absurd is
+pair_refused bytes rows pairs a b (Ok found) why few h are steps is =
+    let fields = fields_of found in
+    let read = steps.0 in
+    let one = one_more_row (strip_bom bytes) rows a b fields h read.0 read.1 read.2 steps.1 in
+    let begin = first_records default_config (strip_bom bytes) (rows ++ fields ∷ []) (reader_state (owned_rows_reader b)) one.bytes one.reached in
+    refused bytes rows pairs fields (length pairs + 2) few are begin (sym is.0) refl ∙ ap Err (sym is.1)

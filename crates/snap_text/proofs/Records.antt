@@ -1,20 +1,23 @@
 -- What one step of a reader does.
-use Rattle.std.proofs.Common.{◌≡◌, ◌<◌, ◌++◌, ◌∙◌, ℕ, List, [], ◌∷◌, true, false, Option, Some, sym, inl, true≢false}
+use Rattle.std.proofs.Common.{◌≡◌, ◌<◌, ◌++◌, ◌∙◌, ℕ, List, [], ◌∷◌, true, false, Option, Some, Result, Ok, Err, sym, inl, true≢false}
+use Rattle.std.specs.Prelude.{IfErr}
 use Rattle.std.specs.Borrow.{Bor}
-use Rattle.csv.specs.Reading.{ExplainsRead, ReadRecord, default_config, is_flexible, owned_rows_left, owned_rows_reader, records}
+use Rattle.csv.specs.Reading.{ExplainsRead, ReadRecord, RowStep, default_config, error_kind, is_flexible, owned_rows_left, owned_rows_reader, records}
+use Rattle.csv.specs.declared.error.Error.{Error}
 use Rattle.csv.specs.declared.error.ErrorKind.{ErrorKind}
 use Rattle.csv.specs.declared.error.ErrorKind.TheVariants as kind
 use Rattle.csv.specs.declared.iter.ByteRecordsIntoIter.{ByteRecordsIntoIter}
 use Rattle.csv.specs.declared.parser.State.TheVariants as state
+use Rattle.csv.specs.declared.record.ByteRecord.{ByteRecord}
 use Rattle.csv.proofs.ReadFacts.{rows-end, rows-more}
 use Rattle.snap_text.specs.Csv.{IsOfMemory, IsReading}
 use Rattle.snap_text.specs.Loads.{Fields}
 use Rattle.snap_text.proofs.Costs.{all_records}
 
-abbrev Rows : Type 0
+abbrev pub Rows : Type 0
 Rows = ByteRecordsIntoIter (Bor (List ℕ))
 
-abbrev known : Bor (List ℕ) → Option (List ℕ)
+abbrev pub known : Bor (List ℕ) → Option (List ℕ)
 known slice = Some slice.now
 
 -- a step that gives a record
@@ -51,3 +54,8 @@ fails_of_memory text rows a b (kind.UnequalLengths pos expected len) h because =
 fails_of_memory text rows a b (kind.Utf8 pos err) h because = absurd (true≢false (sym because.0))
 fails_of_memory text rows a b (kind.Serialize text') h because = because
 fails_of_memory text rows a b (kind.Deserialize pos err) h because = because
+
+pub fails_alone_of_memory : (text : List ℕ) (rows : List Fields) (a b : Rows) (row : Result ByteRecord Error) → IsReading text rows a
+    → RowStep known (owned_rows_reader a) (owned_rows_reader b) (owned_rows_left b) (Some row) → IfErr row (λ error. IsOfMemory (error_kind error))
+fails_alone_of_memory text rows a b (Ok found) h step = tt
+fails_alone_of_memory text rows a b (Err error) h step = fails_of_memory text rows a b (error_kind error) h step

@@ -1,5 +1,5 @@
 -- What holds of every command of the language: a put's value is in its range, and slots are used as they may be.
-use Rattle.std.proofs.Common.{◌≡◌, ℕ, ◌+◌, ◌≤◌, Bool, true, false, true≢false, cond, List, [], ◌∷◌, Option, Some, None, Result, Ok, Err, length, get_or, refl, sym, ap, subst, ◌∙◌, eqb, is_some}
+use Rattle.std.proofs.Common.{◌≡◌, ℕ, ◌+◌, arith, Bool, true, false, true≢false, cond, List, [], ◌∷◌, Option, Some, None, Result, Ok, Err, length, get_or, refl, sym, ap, subst, ◌∙◌, eqb, is_some}
 use Rattle.std.specs.Prelude.{All, is_none, ok_or, slice_index}
 use Rattle.std.specs.List.{AllByRecursion}
 use Rattle.std.specs.Str.Parse.{digits_value}
@@ -18,7 +18,7 @@ use Rattle.snap_text.specs.declared.verb.Verb.TheVariants as verb
 use Rattle.snap_text.specs.Clones.{Slots, all_free, free_slot, has_name, slot_of}
 use Rattle.snap_text.specs.Grammar.{Action, File, Form, HasValueInRange, Key, Maker, Meaning, Name, Value, WordKind, and_then, done, done_by, drop_clone, drop_in, filled, form_of, in_slot, line_of, made, make_clone, make_in, meaning_of, on_clone, plain}
 use Rattle.snap_text.specs.Lines.{lines, words}
-use Rattle.snap_text.specs.Numbers.{greatest_value, is_number}
+use Rattle.snap_text.specs.Numbers.{FitsValue, greatest_value, is_number}
 use Rattle.snap_text.specs.Scripts.{is_too_long, script_from, script_of, with_command, with_line}
 use Rattle.snap_text.specs.Uses.{AllUseSlots, IsFree, IsTaken, UsesSlots, slots_after}
 use Rattle.snap_text.specs.Verbs.{verb_of}
@@ -35,7 +35,7 @@ SoundAction action = (slots : Slots) (c : Command) (later : Slots) → action sl
 
 -- what is known of the meaning of a word
 abbrev IsMeaning : (kind : WordKind) → Meaning kind → Type 0
-IsMeaning Value value = value ≤ greatest_value
+IsMeaning Value value = FitsValue value
 IsMeaning Key key = Unit {0}
 IsMeaning Name name = Unit {0}
 IsMeaning File file = Unit {0}
@@ -129,11 +129,14 @@ and_then_ok : {A B : Type 0} (r : Result A LineKind) (f : A → Result B LineKin
 and_then_ok (Ok x) f y e = (x, refl, e)
 and_then_ok (Err kind) f y e = absurd (cc e)
 
-value_in_range : (word : List ℕ) (value : ℕ) → meaning_of Value word ≡ Ok value → value ≤ greatest_value
+value_in_range : (word : List ℕ) (value : ℕ) → meaning_of Value word ≡ Ok value → FitsValue value
 value_in_range word value e = by_test (is_number greatest_value word) refl e
   where
-    by_test : (is : Bool) → is_number greatest_value word ≡ is → ok_or (cond is (Some (digits_value 10 word)) None) kind.BadNumber ≡ Ok value → value ≤ greatest_value
-    by_test true is e = let same : digits_value 10 word ≡ value = cc e in rw (← same) (parts_of_number greatest_value word is).1
+    by_test : (is : Bool) → is_number greatest_value word ≡ is → ok_or (cond is (Some (digits_value 10 word)) None) kind.BadNumber ≡ Ok value → FitsValue value
+    by_test true is e =
+        let same : digits_value 10 word ≡ value = cc e in
+        let small = (parts_of_number greatest_value word is).1 in
+        omega (arith, same, small)
     by_test false is e = absurd (cc e)
 
 meaning_holds : (kind : WordKind) (word : List ℕ) (meaning : Meaning kind) → meaning_of kind word ≡ Ok meaning → IsMeaning kind meaning

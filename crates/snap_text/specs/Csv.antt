@@ -1,15 +1,21 @@
 -- How this crate uses `csv`.
-use Rattle.std.specs.Prelude.{◌≡◌, ◌<◌, ℕ, List, Some, true, false}
+use Rattle.std.specs.Prelude.{◌≡◌, ◌<◌, ◌++◌, ℕ, List, [], ◌∷◌, Some, None, Result, Ok, Err, true, false}
 use Rattle.std.specs.Borrow.{Bor}
 use Rattle.csv.specs.Reading.{Reached, Ready, default_config, is_flexible, owned_rows_left, owned_rows_reader, reader_config, reader_state, reader_trim, source_of}
 use Rattle.csv.specs.Writing.{default_writer, fields_written, has_written, writer_setup}
+use Rattle.csv.specs.Records.{fields_of}
+use Rattle.csv.specs.declared.error.Error.{Error}
 use Rattle.csv.specs.declared.error.ErrorKind.{ErrorKind}
 use Rattle.csv.specs.declared.error.ErrorKind.TheVariants as kind
 use Rattle.csv.specs.declared.iter.ByteRecordsIntoIter.{ByteRecordsIntoIter}
 use Rattle.csv.specs.declared.parser.State.TheVariants as state
 use Rattle.csv.specs.declared.reader.Trim.TheVariants as trim
+use Rattle.csv.specs.declared.record.ByteRecord.{ByteRecord}
 use Rattle.csv.specs.declared.writer.Writer.{Writer}
-use Rattle.snap_text.specs.Loads.{Fields}
+use Rattle.snap_text.specs.declared.fault.PairsFault.{PairsFault}
+use Rattle.snap_text.specs.declared.fault.PairsFault.TheVariants as fault
+use Rattle.snap_text.specs.Loads.{Fields, is_header, pair_of}
+use Rattle.snap_text.specs.Numbers.{FitsValue}
 
 -- the writer has the crate's defaults, and no field of a row is open
 abbrev pub IsBetweenRows : {W : Type 0} → Writer W → Type 0
@@ -31,3 +37,19 @@ pub record IsReading (text : List ℕ) (rows : List Fields) (reader : ByteRecord
   pub bytes : List ℕ
   pub left : source_of (λ slice. Some slice.now) (owned_rows_reader reader) ≡ Some bytes
   pub reached : Reached default_config state.StartRecord text rows (reader_state (owned_rows_reader reader)) bytes
+
+-- the header was read, and nothing below it
+pub record IsBelowHeader (text : List ℕ) (reader : ByteRecordsIntoIter (Bor (List ℕ))) : Type 0 where
+  pub header : Fields
+  pub is_first : is_header header ≡ true
+  pub reading : IsReading text (header ∷ []) reader
+
+-- the pair of the record was added behind the others
+abbrev pub Adds : Result ByteRecord Error → List (ℕ × ℕ) → List (ℕ × ℕ) → Type 0
+Adds (Ok row) old new = (pair : ℕ × ℕ) × (pair_of (fields_of row) ≡ Some pair) × FitsValue pair.1 × (new ≡ old ++ pair ∷ [])
+Adds (Err error) old new = ⊥
+
+-- the record, which has this number, is no pair
+abbrev pub IsRefused : Result ByteRecord Error → ℕ → PairsFault → Type 0
+IsRefused (Ok row) number why = (pair_of (fields_of row) ≡ None) × (why ≡ fault.Record number)
+IsRefused (Err error) number why = ⊥

@@ -1,5 +1,5 @@
 -- The table of the language: which words make which command.
-use Rattle.std.specs.Prelude.{◌==◌, ◌≤◌, ℕ, List, [], ◌∷◌, Option, Some, None, Result, Ok, Err, is_some, length, ok_or, slice_index, if◌then◌else◌}
+use Rattle.std.specs.Prelude.{◌==◌, ℕ, List, [], ◌∷◌, Option, Some, None, Result, Ok, Err, is_some, length, ok_or, slice_index, if◌then◌else◌}
 use Rattle.snap_model.specs.declared.command.Command.{Command}
 use Rattle.snap_model.specs.declared.command.Command.TheVariants as command
 use Rattle.snap_text.specs.declared.fault.LineKind.{LineKind}
@@ -8,7 +8,7 @@ use Rattle.snap_text.specs.declared.verb.Verb.{Verb}
 use Rattle.snap_text.specs.declared.verb.Verb.TheVariants as verb
 use Rattle.snap_text.specs.Clones.{Slots, free_slot, slot_of, with_clone, without_clone}
 use Rattle.snap_text.specs.Names.{is_file, is_name}
-use Rattle.snap_text.specs.Numbers.{greatest_key, greatest_value, number_of}
+use Rattle.snap_text.specs.Numbers.{FitsValue, greatest_key, greatest_value, number_of}
 use Rattle.snap_text.specs.Verbs.{verb_of}
 
 -- what a word after the first stands for
@@ -137,5 +137,5 @@ line_of (word ∷ words) slots =
 
 -- a put's value is one that a map can hold
 abbrev pub HasValueInRange : Command → Type 0
-HasValueInRange (command.Put key value) = value ≤ greatest_value
+HasValueInRange (command.Put key value) = FitsValue value
 HasValueInRange _ = Unit {0}

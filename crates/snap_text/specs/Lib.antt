@@ -10,5 +10,6 @@ pub mod Scripts
 pub mod Replies
 pub mod Tables
 pub mod Loads
+pub mod LoadFiles
 pub mod Csv
 pub mod Examples

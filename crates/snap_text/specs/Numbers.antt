@@ -1,5 +1,5 @@
 -- Numbers as text: one or more ASCII digits, leading zeros accepted.
-use Rattle.std.specs.Prelude.{◌&&◌, ◌-◌, ◌^◌, ℕ, Bool, List, Option, Some, None, length, nat_le, nat_lt, if◌then◌else◌}
+use Rattle.std.specs.Prelude.{◌&&◌, ◌+◌, ◌-◌, ◌<◌, ◌^◌, ℕ, Bool, List, Option, Some, None, length, nat_le, nat_lt, if◌then◌else◌}
 use Rattle.std.specs.Str.{all_ascii_digits}
 use Rattle.std.specs.Str.Parse.{digits_value}
 
@@ -9,6 +9,10 @@ greatest_key = 2 ^ 64 - 1
 
 abbrev pub greatest_value : ℕ
 greatest_value = 2 ^ 64 - 2
+
+-- a map can hold the value: one more than it is a word, too
+abbrev pub FitsValue : ℕ → Type 0
+FitsValue value = value + 1 < 2 ^ 64
 
 -- the text is a number of at most `most`
 abbrev pub is_number : ℕ → List ℕ → Bool

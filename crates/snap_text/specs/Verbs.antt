@@ -29,3 +29,12 @@ verbs =
 -- the verb that a word writes
 unfoldable pub verb_of : List ℕ → Option Verb
 verb_of word = find (λ verb. bytes_eq (word_of verb) word) verbs
+
+-- the verb asks a clone at a key
+abbrev pub AsksAtKey : Verb → Type 0
+AsksAtKey verb.See = Unit {0}
+AsksAtKey verb.Floor = Unit {0}
+AsksAtKey verb.Lower = Unit {0}
+AsksAtKey verb.Ceiling = Unit {0}
+AsksAtKey verb.Higher = Unit {0}
+AsksAtKey _ = ⊥

@@ -28,17 +28,15 @@ returns-in_ok-read_put-in-Put c =
     let put = c.in_ok-read_put-in-Put.ensures in
     rw (c.in-Put.is, put) refl
 
-pub returns-in_ok-read_key-in-Remove : goal.returns-in_ok-read_key-in-Remove
-returns-in_ok-read_key-in-Remove c =
-    let one = c.in_ok-one-in-Remove.ensures in
-    let key = c.in_ok-read_key-in-Remove.ensures in
-    rw (c.in-Remove.is, one, ← key) refl
+pub returns-in_ok-read_remove-in-Remove : goal.returns-in_ok-read_remove-in-Remove
+returns-in_ok-read_remove-in-Remove c =
+    let remove = c.in_ok-read_remove-in-Remove.ensures in
+    rw (c.in-Remove.is, remove) refl
 
-pub returns-in_ok-read_key-in-Get : goal.returns-in_ok-read_key-in-Get
-returns-in_ok-read_key-in-Get c =
-    let one = c.in_ok-one-in-Get.ensures in
-    let key = c.in_ok-read_key-in-Get.ensures in
-    rw (c.in-Get.is, one, ← key) refl
+pub returns-in_ok-read_get-in-Get : goal.returns-in_ok-read_get-in-Get
+returns-in_ok-read_get-in-Get c =
+    let get = c.in_ok-read_get-in-Get.ensures in
+    rw (c.in-Get.is, get) refl
 
 pub returns-in_ok-slot-in-First : goal.returns-in_ok-slot-in-First
 returns-in_ok-slot-in-First c =
@@ -57,51 +55,6 @@ pub returns-in_err-slot-in-Last : goal.returns-in_err-slot-in-Last
 returns-in_err-slot-in-Last c =
     let p = err_from_is_err_and c.from_residual-in_err-slot-in-Last.result c.from_residual-in_err-slot-in-Last.ensures.1 in
     rw (p.1, p.2, c.in-Last.is) (c.in_err-slot-in-Last.ensures (λ slot. command.Last slot))
-
-pub returns-in_ok-slot-in-See : goal.returns-in_ok-slot-in-See
-returns-in_ok-slot-in-See c =
-    rw c.in-See.is (c.in_ok-slot-in-See.ensures (λ slot key. command.See slot key))
-
-pub returns-in_err-slot-in-See : goal.returns-in_err-slot-in-See
-returns-in_err-slot-in-See c =
-    let p = err_from_is_err_and c.from_residual-in_err-slot-in-See.result c.from_residual-in_err-slot-in-See.ensures.1 in
-    rw (p.1, p.2, c.in-See.is) (c.in_err-slot-in-See.ensures (λ slot key. command.See slot key))
-
-pub returns-in_ok-slot-in-Floor : goal.returns-in_ok-slot-in-Floor
-returns-in_ok-slot-in-Floor c =
-    rw c.in-Floor.is (c.in_ok-slot-in-Floor.ensures (λ slot key. command.Floor slot key))
-
-pub returns-in_err-slot-in-Floor : goal.returns-in_err-slot-in-Floor
-returns-in_err-slot-in-Floor c =
-    let p = err_from_is_err_and c.from_residual-in_err-slot-in-Floor.result c.from_residual-in_err-slot-in-Floor.ensures.1 in
-    rw (p.1, p.2, c.in-Floor.is) (c.in_err-slot-in-Floor.ensures (λ slot key. command.Floor slot key))
-
-pub returns-in_ok-slot-in-Lower : goal.returns-in_ok-slot-in-Lower
-returns-in_ok-slot-in-Lower c =
-    rw c.in-Lower.is (c.in_ok-slot-in-Lower.ensures (λ slot key. command.Lower slot key))
-
-pub returns-in_err-slot-in-Lower : goal.returns-in_err-slot-in-Lower
-returns-in_err-slot-in-Lower c =
-    let p = err_from_is_err_and c.from_residual-in_err-slot-in-Lower.result c.from_residual-in_err-slot-in-Lower.ensures.1 in
-    rw (p.1, p.2, c.in-Lower.is) (c.in_err-slot-in-Lower.ensures (λ slot key. command.Lower slot key))
-
-pub returns-in_ok-slot-in-Ceiling : goal.returns-in_ok-slot-in-Ceiling
-returns-in_ok-slot-in-Ceiling c =
-    rw c.in-Ceiling.is (c.in_ok-slot-in-Ceiling.ensures (λ slot key. command.Ceiling slot key))
-
-pub returns-in_err-slot-in-Ceiling : goal.returns-in_err-slot-in-Ceiling
-returns-in_err-slot-in-Ceiling c =
-    let p = err_from_is_err_and c.from_residual-in_err-slot-in-Ceiling.result c.from_residual-in_err-slot-in-Ceiling.ensures.1 in
-    rw (p.1, p.2, c.in-Ceiling.is) (c.in_err-slot-in-Ceiling.ensures (λ slot key. command.Ceiling slot key))
-
-pub returns-in_ok-slot-in-Higher : goal.returns-in_ok-slot-in-Higher
-returns-in_ok-slot-in-Higher c =
-    rw c.in-Higher.is (c.in_ok-slot-in-Higher.ensures (λ slot key. command.Higher slot key))
-
-pub returns-in_err-slot-in-Higher : goal.returns-in_err-slot-in-Higher
-returns-in_err-slot-in-Higher c =
-    let p = err_from_is_err_and c.from_residual-in_err-slot-in-Higher.result c.from_residual-in_err-slot-in-Higher.ensures.1 in
-    rw (p.1, p.2, c.in-Higher.is) (c.in_err-slot-in-Higher.ensures (λ slot key. command.Higher slot key))
 
 pub returns-in_ok-read_count-in-Count : goal.returns-in_ok-read_count-in-Count
 returns-in_ok-read_count-in-Count c =
