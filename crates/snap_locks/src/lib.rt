@@ -19,6 +19,7 @@ pub fn lock<R: Wait>(rows: &Rows, rt: &R, pass: &mut Pass, row: RowNo)
     requires row { row ≤ rows.now.rows }
     requires writing { (made : Bool) × (counted : Bool) × (pass.old.view.stage ≡ Writing made counted) }
     requires free { times row pass.old.view.holds ≡ 0 }
+    requires whole { pass.old.view.doing ≡ Nothing }
     requires reached { (row ≡ 0) ⊎ (0 < times row pass.old.view.reached) }
     ensures { HasLocked pass.old pass.new row }
 {

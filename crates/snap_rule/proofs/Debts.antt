@@ -8,8 +8,6 @@ pub mod Heights
 pub mod Silent
 pub mod Settling
 pub mod Examples
-pub mod Whole
-pub mod Steps
 use Rattle.std.proofs.Common.{◌≡◌, ◌≢◌, ℕ, zero, suc, ◌≤◌, ◌⊎◌, inl, inr, List, [], ◌∷◌, Some, eqb, eq-eqb, ne_eqb, true, false, refl, ap, ap₂, sym, ◌∙◌, subst, arith}
 use Rattle.std.specs.Prelude.{max}
 use native.Mathlib.Decide.{ℕ_discrete}

@@ -6,6 +6,7 @@ pub mod Orders
 pub mod Finds
 pub mod Readings
 pub mod Paths
+pub mod Sizes
 pub mod Shallow
 use Rattle.std.proofs.Common.{◌≡◌, ℕ, ◌+◌, ◌<◌, ◌≤◌, ◌≢◌, inl, inr, None, refl, ap, sym, ◌∙◌, arith}
 use Rattle.std.proofs.lemmas.Bool.Decides.{nat_tests}

@@ -5,7 +5,6 @@ pub mod Lists
 pub mod Step
 pub mod Kinds
 pub mod Changes
-pub mod Views
 use Rattle.std.specs.Prelude.{List, None, Some, [], ℕ, ◌+◌, ◌∷◌, ◌≡◌, ◌≤◌, ◌⊎◌}
 use Rattle.snap_rule.specs.Rule.{IsLive}
 use Rattle.snap_rule.specs.Settled.{IsSettled}

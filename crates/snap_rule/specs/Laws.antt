@@ -10,4 +10,3 @@ pub mod Debts
 pub mod DebtKinds
 pub mod Settled
 pub mod Heights
-pub mod DebtPasses

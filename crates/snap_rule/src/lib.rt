@@ -13,7 +13,6 @@ pub mod heights;
 pub mod kinds;
 pub mod knowledge;
 pub mod owing;
-pub mod owing_passes;
 pub mod passes;
 pub mod quiescence;
 pub mod reader;

@@ -1,6 +1,6 @@
 //! Settled rows and trees, and room to repair.
 
-ghost use Rattle.snap_rule.specs.Laws.Settled.{AllSettled, CutCause, QuietShallow, ReasonLasts, RoomBefore, SettledShallow, SharedSettled, StampFound};
+ghost use Rattle.snap_rule.specs.Laws.Settled.{AllSettled, CutCause, FewStand, PairsFew, QuietShallow, ReasonLasts, RoomBefore, SettledShallow, SharedSettled, StampFound};
 
 /// Room after a step gives room before it.
 pub fn room_before()
@@ -30,6 +30,16 @@ pub fn settled_shallow()
 /// So is the tree of a table with room where no pass owes.
 pub fn quiet_shallow()
     ensures { QuietShallow }
+{}
+
+/// A tree of some depth has fewer pairs than the full one.
+pub fn pairs_few()
+    ensures { PairsFew }
+{}
+
+/// A tree has no more rows than were handed out.
+pub fn few_stand()
+    ensures { FewStand }
 {}
 
 /// Where rows are left and there is no room, a row shows it.

@@ -3,10 +3,12 @@
 #![tactic(auto)]
 
 mod down;
+mod endings;
 mod places;
 mod reading;
 mod trying;
 
+pub use endings::{Ending, find_to_repair};
 pub use places::{Place, find_for_write};
 pub use reading::get;
 pub use snap_steps::Busy;

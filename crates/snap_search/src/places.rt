@@ -56,8 +56,8 @@ pub fn find_for_write<R: Wait>(rows: &Rows, rt: &R, pass: &mut Pass, key: Key) -
     unreachable!()
 }
 
-// One step down: the place, or where the search goes on.
-fn look_for_place(
+/// One step down: the place, or where the search goes on.
+pub(crate) fn look_for_place(
     rows: &Rows,
     pass: &mut Pass,
     key: Key,

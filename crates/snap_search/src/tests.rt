@@ -1,5 +1,5 @@
 //! Searches in a table without keys.
-use crate::{Place, find_for_write, get, try_get};
+use crate::{Place, find_for_write, find_to_repair, get, try_get};
 use snap_stamp::Side;
 use snap_steps::{Rows, try_enter};
 use std::test::Fail;
@@ -19,5 +19,10 @@ fn an_empty_table_has_no_key(rt: HostRuntime) -> Result<(), Fail> {
     assert_eq!(rt; row.number(), 0);
     assert_eq!(rt; stamp.word(), 0);
     assert_eq!(rt; side, Side::Right);
+    let end = find_to_repair(&rows, &rt, &mut p, 7);
+    let (row, side) = (end.row, end.side);
+    assert_eq!(rt; row.number(), 0);
+    assert_eq!(rt; side, Side::Right);
+    assert!(rt; !end.here);
     Ok(())
 }

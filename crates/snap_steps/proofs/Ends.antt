@@ -150,6 +150,9 @@ module _ (about : About) (words : List ℕ) (views : List View) (k : Kept about 
     others = λ i none. ap (λ (l : List Entry). calls_of l i) seen_is ∙ k.history.others i (total_alone (names i) views id v at (λ j u ne there. not_theirs j u ne there i) ∙ none);
   }
 
+  pub knows_cuts : v.epochs ≤ all_cuts v
+  knows_cuts = omega (arith, k.cut, total_alone all_cuts views id v at none_cut, (k.notes id v at).epochs_are)
+
   pub ends : (last : Known) (writes drawn added taken : ℕ) → last.view ≡ v → v.stage ≡ Idle → get_elem? words 0 ≡ some drawn → get_elem? words 3 ≡ some writes → CountsPairs v added taken → writes < 2 ^ 64
       → (let e : Ended = record { writes = writes; pairs = (added + (2 ^ 64 - taken)) % 2 ^ 64; drawn = drawn; last = last } in let p : Known = record { table = last.table; view = v } in Closes p e)
   ends last writes drawn added taken is idle word0 word3 pairs small =
@@ -157,7 +160,6 @@ module _ (about : About) (words : List ℕ) (views : List View) (k : Kept about 
       let done : writes ≡ k.m.done = some-injective writes k.m.done (sym word3 ∙ ap (λ (ws : List ℕ). get_elem? ws 3) k.memory.words_are) in
       let owes = total_alone (λ u. owes_count u.stage) views id v at none_owes in
       let count : writes ≡ length v.seen = omega (arith, done, k.counted.all, owes, ap owes_count idle, ap length seen_is) in
-      let cuts = total_alone all_cuts views id v at none_cut in
       let rows_are = (k.about_known id v at (ap is_live passing)).0 in
       let a = sum_is adds v passing knows_all once in let t = sum_is takes v passing knows_all once in
       let balance = pair_counts v.seen knows_all.legal in let few = adds_few v.seen in let is_added = pairs.added_are in let is_taken = pairs.taken_are in
@@ -165,9 +167,10 @@ module _ (about : About) (words : List ℕ) (views : List View) (k : Kept about 
         last = λ i. record { table = last.table; view = is i };
         knows = knows_all;
         writes = count;
+        few = omega (arith, count, small);
         pairs = omega (arith, a, t, balance, few, is_added, is_taken, count);
         handed = omega (arith, next, (k.notes id v at).handed_is);
         drawn = omega (arith, next, rows_are, k.memory.room);
-        epochs = omega (arith, k.cut, cuts, (k.notes id v at).epochs_are);
+        epochs = knows_cuts;
         state = record { about = about; rows_are = sym rows_are; passes_are = sym passes_are; words = words; views = views; id = id; at = at; kept = k; next = next; worn = k.worn id v at };
       }

@@ -10,6 +10,12 @@ pub mod Locks
 pub mod Writes
 pub mod Leaf
 pub mod Changes
+pub mod Unlinking
+pub mod Rotating
+pub mod Raising
+pub mod Turned
+pub mod Heights
+pub mod Aiming
 pub mod Copies
 pub mod Below
 pub mod Way

@@ -1,13 +1,13 @@
 -- What is known of words, once a word was written or a row let go.
-use Rattle.std.proofs.Common.{ℕ, List, [], ◌∷◌, arith, ◌≢◌, ◌≡◌, ◌<◌, set, ap, ◌∙◌, ◌≤◌, true, eq-eqb, false, sym, Bool, cond, eqb, ◌&&◌, length, refl, eqb-true, inl, inr}
+use Rattle.std.proofs.Common.{◌⊎◌, ℕ, List, [], ◌∷◌, arith, ◌≢◌, ◌≡◌, ◌<◌, set, ap, ◌∙◌, ◌≤◌, true, eq-eqb, false, sym, Bool, cond, eqb, ◌&&◌, length, refl, eqb-true, inl, inr}
 use Rattle.std.proofs.lemmas.Bool.Decides.{nat_tests}
 use Rattle.snap_stamp.specs.Layout.{place_of}
 use Rattle.snap_stamp.specs.declared.layout.Field.{Field}
-use Rattle.snap_steps.specs.Facts.{AreFacts, same_field, forgotten, forgotten_row, IsKnown}
+use Rattle.snap_steps.specs.Facts.{AreFacts, same_field, forgotten, forgotten_row, IsKnown, word_in}
 use Rattle.snap_steps.specs.declared.view.Fact.{Fact}
 use Rattle.snap_steps.specs.Memory.{Row, field, row, with_field}
 use Rattle.snap_steps.specs.Counting.{times, removed}
-use Rattle.snap_steps.proofs.Cells.{row_other, row_same, field_other}
+use Rattle.snap_steps.proofs.Cells.{one_place, row_other, row_same, field_other}
 use Rattle.snap_steps.proofs.Totals.{removed_other}
 
 -- facts stay where there are more rows that they may speak of
@@ -73,3 +73,15 @@ pub known_is : (rows : List Row) (holds : List ℕ) (l : List Fact) (r : ℕ) (f
 known_is rows holds [] r f x h is = absurd is
 known_is rows holds (y ∷ ys) r f x h (inl e) = sym (λ i. field (e.1 i) (row rows (e.0 i))) ∙ h.0 ∙ e.2
 known_is rows holds (y ∷ ys) r f x h (inr is) = known_is rows holds ys r f x h.2 is
+
+-- and it is the word that is known
+pub known_word : (rows : List Row) (holds : List ℕ) (l : List Fact) (r : ℕ) (f : Field) (x : ℕ) → AreFacts rows holds l → IsKnown l r f x → field f (row rows r) ≡ word_in l r f
+known_word rows holds [] r f x h is = absurd is
+known_word rows holds (y ∷ ys) r f x h is = go (eqb y.row r) refl (same_field y.field f) refl is (λ k. known_word rows holds ys r f x h.2 k)
+  where
+    go : (a : Bool) → eqb y.row r ≡ a → (b : Bool) → same_field y.field f ≡ b → ((y.row ≡ r) × (y.field ≡ f) × (y.word ≡ x)) ⊎ IsKnown ys r f x → (IsKnown ys r f x → field f (row rows r) ≡ word_in ys r f) → field f (row rows r) ≡ cond (a && b) y.word (word_in ys r f)
+    go true ea true eb q on = let same : y.row ≡ r = eqb-true y.row r ea in let same_f : y.field ≡ f = one_place y.field f (eqb-true (place_of y.field) (place_of f) eb) in sym (λ i. field (same_f i) (row rows (same i))) ∙ h.0
+    go true ea false eb (inl e) on = absurd (same_field_false y.field f eb e.1)
+    go true ea false eb (inr k) on = on k
+    go false ea b eb (inl e) on = absurd (let t : true ≡ false = sym (eq-eqb y.row r e.0) ∙ ea in cc)
+    go false ea b eb (inr k) on = on k

@@ -14,3 +14,6 @@ pub mod Bases
 pub mod Tries
 pub mod Marks
 pub mod Linked
+pub mod Debts
+pub mod Heights
+pub mod Places

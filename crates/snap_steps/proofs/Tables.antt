@@ -1,4 +1,8 @@
 -- The rule's part on tables, and what an evolving table leaves true.
+use Rattle.snap_rule.proofs.Debts.Silent.{header_silent, lock_silent, own_silent}
+use Rattle.snap_rule.specs.Debt.Step.{IsSilent}
+use Rattle.snap_rule.proofs.Debts.Heights.{held_words}
+use Rattle.snap_rule.specs.Heights.{KeepsHeights}
 use Rattle.std.proofs.Common.{inl, inr, ℕ, ◌<◌, List, [], ◌∷◌, arith, ◌≡◌, ◌∙◌, ◌≢◌, refl, ap, sym, subst, ◌%◌}
 use lib.ListN.{get_elem?}
 use mathlib.Core.Logic.{dite}
@@ -98,32 +102,45 @@ header_moves m m' g w rows epoch may ok =
     let path : word_kinds.header_stored s m'.gate m'.left w ≡ state_of m' (record g { writers = w }) = λ i. state_of (record m' { rows = sym rows i; epoch = sym epoch i }) (record g { writers = w }) in
     subst (λ (x : Table). Moves s x Anywhere) path (header_evolves s m'.gate m'.left w may, header_keeps s ok m'.gate m'.left w may, λ n _. header_apart s n m'.gate m'.left w)
 
+-- they are silent
+pub header_still : (m m' : Memory) (g : Beside) (w : ℕ) → m'.rows ≡ m.rows → m'.epoch ≡ m.epoch → IsSilent (state_of m g) (state_of m' (record g { writers = w }))
+header_still m m' g w rows epoch =
+    let s : Table = state_of m g in
+    let path : word_kinds.header_stored s m'.gate m'.left w ≡ state_of m' (record g { writers = w }) = λ i. state_of (record m' { rows = sym rows i; epoch = sym epoch i }) (record g { writers = w }) in
+    subst (IsSilent s) path (header_silent s m'.gate m'.left w)
+
 -- a lock word
+pub lock_still : (m : Memory) (g : Beside) (r n : ℕ) → r < Rattle.std.proofs.Common.length m.rows → IsSilent (state_of m g) (state_of (record m { rows = changed m.rows r Lock n }) g)
+lock_still m g r n near = let s : Table = state_of m g in subst (IsSilent s) (sym (sets m g r Lock n near)) (lock_silent s r n)
+
 pub lock_moves : (m : Memory) (g : Beside) (r n : ℕ) → r < Rattle.std.proofs.Common.length m.rows → g.writers ≢ 0 → TableOk (state_of m g) → Moves (state_of m g) (state_of (record m { rows = changed m.rows r Lock n }) g) Anywhere
 lock_moves m g r n near writing ok = let s : Table = state_of m g in subst (λ (x : Table). Moves s x Anywhere) (sym (sets m g r Lock n near)) (lock_evolves s r n writing, lock_keeps s ok r n, λ y _. lock_apart s y r n)
 
 same_words : {A : Type 0} (f : ℕ → A) (r y : ℕ) → updates.changed f r (f r) y ≡ f y
 same_words f r y = dite (ℕ_discrete y r) (λ e. ap (updates.changed f r (f r)) e ∙ changed_same f r (f r) ∙ ap f (sym e)) (λ ne. changed_other f r (f r) y ne)
 
--- a word of a row that isn't linked
-own_word : (s : Table) (r : ℕ) (f : Field) (x : ℕ) → f ≢ Lock → f ≢ Stamp → word_kinds.MayStoreOwn s r → TableOk s → Moves s (with_word s r f x) (λ n. n ≢ r)
+-- a word of a row that isn't linked: such a step is silent, and leaves all heights below live rows
+abbrev pub OwnMoves : Table → Table → ℕ → Type 0
+OwnMoves s s' r = Moves s s' (λ n. n ≢ r) × IsSilent s s' × ((n : ℕ) → IsLive s n → KeepsHeights s s' n)
+
+own_word : (s : Table) (r : ℕ) (f : Field) (x : ℕ) → f ≢ Lock → f ≢ Stamp → word_kinds.MayStoreOwn s r → TableOk s → OwnMoves s (with_word s r f x) r
 own_word s r f x no_lock no_stamp may ok = go f no_lock no_stamp
   where
-    at : (k b h v : ℕ) (l : Side → ℕ) → Moves s (word_kinds.own_stored s r k b h v l) (λ n. n ≢ r)
-    at k b h v l = (own_evolves s r k b h v l ok.tree may, own_keeps s ok r k b h v l may, λ n ne. own_apart s n r k b h v l ne)
+    at : (k b h v : ℕ) (l : Side → ℕ) → OwnMoves s (word_kinds.own_stored s r k b h v l) r
+    at k b h v l = ((own_evolves s r k b h v l ok.tree may, own_keeps s ok r k b h v l may, λ n ne. own_apart s n r k b h v l ne), own_silent s r k b h v l ok may, λ n live. (held_words.2 s r k b h v l n ok may live.stands).2)
 
-    go : (f : Field) → f ≢ Lock → f ≢ Stamp → Moves s (with_word s r f x) (λ n. n ≢ r)
-    go Key a b = subst (λ (z : Table). Moves s z (λ n. n ≢ r)) (λ i. record s { key = updates.changed s.key r x; birth = λ y. same_words s.birth r y i; height = λ y. same_words s.height r y i; value = λ y. same_words s.value r y i; link = λ y. same_words s.link r y i }) (at x (s.birth r) (s.height r) (s.value r) (s.link r))
-    go Birth a b = subst (λ (z : Table). Moves s z (λ n. n ≢ r)) (λ i. record s { key = λ y. same_words s.key r y i; birth = updates.changed s.birth r x; height = λ y. same_words s.height r y i; value = λ y. same_words s.value r y i; link = λ y. same_words s.link r y i }) (at (s.key r) x (s.height r) (s.value r) (s.link r))
-    go Height a b = subst (λ (z : Table). Moves s z (λ n. n ≢ r)) (λ i. record s { key = λ y. same_words s.key r y i; birth = λ y. same_words s.birth r y i; height = updates.changed s.height r x; value = λ y. same_words s.value r y i; link = λ y. same_words s.link r y i }) (at (s.key r) (s.birth r) x (s.value r) (s.link r))
-    go Value a b = subst (λ (z : Table). Moves s z (λ n. n ≢ r)) (λ i. record s { key = λ y. same_words s.key r y i; birth = λ y. same_words s.birth r y i; height = λ y. same_words s.height r y i; value = updates.changed s.value r x; link = λ y. same_words s.link r y i }) (at (s.key r) (s.birth r) (s.height r) x (s.link r))
-    go Left a b = subst (λ (z : Table). Moves s z (λ n. n ≢ r)) (λ i. record s { key = λ y. same_words s.key r y i; birth = λ y. same_words s.birth r y i; height = λ y. same_words s.height r y i; value = λ y. same_words s.value r y i; link = updates.relink s.link r sides.Left x }) (at (s.key r) (s.birth r) (s.height r) (s.value r) (updates.on_side (s.link r) sides.Left x))
-    go Right a b = subst (λ (z : Table). Moves s z (λ n. n ≢ r)) (λ i. record s { key = λ y. same_words s.key r y i; birth = λ y. same_words s.birth r y i; height = λ y. same_words s.height r y i; value = λ y. same_words s.value r y i; link = updates.relink s.link r sides.Right x }) (at (s.key r) (s.birth r) (s.height r) (s.value r) (updates.on_side (s.link r) sides.Right x))
+    go : (f : Field) → f ≢ Lock → f ≢ Stamp → OwnMoves s (with_word s r f x) r
+    go Key a b = subst (λ (z : Table). OwnMoves s z r) (λ i. record s { key = updates.changed s.key r x; birth = λ y. same_words s.birth r y i; height = λ y. same_words s.height r y i; value = λ y. same_words s.value r y i; link = λ y. same_words s.link r y i }) (at x (s.birth r) (s.height r) (s.value r) (s.link r))
+    go Birth a b = subst (λ (z : Table). OwnMoves s z r) (λ i. record s { key = λ y. same_words s.key r y i; birth = updates.changed s.birth r x; height = λ y. same_words s.height r y i; value = λ y. same_words s.value r y i; link = λ y. same_words s.link r y i }) (at (s.key r) x (s.height r) (s.value r) (s.link r))
+    go Height a b = subst (λ (z : Table). OwnMoves s z r) (λ i. record s { key = λ y. same_words s.key r y i; birth = λ y. same_words s.birth r y i; height = updates.changed s.height r x; value = λ y. same_words s.value r y i; link = λ y. same_words s.link r y i }) (at (s.key r) (s.birth r) x (s.value r) (s.link r))
+    go Value a b = subst (λ (z : Table). OwnMoves s z r) (λ i. record s { key = λ y. same_words s.key r y i; birth = λ y. same_words s.birth r y i; height = λ y. same_words s.height r y i; value = updates.changed s.value r x; link = λ y. same_words s.link r y i }) (at (s.key r) (s.birth r) (s.height r) x (s.link r))
+    go Left a b = subst (λ (z : Table). OwnMoves s z r) (λ i. record s { key = λ y. same_words s.key r y i; birth = λ y. same_words s.birth r y i; height = λ y. same_words s.height r y i; value = λ y. same_words s.value r y i; link = updates.relink s.link r sides.Left x }) (at (s.key r) (s.birth r) (s.height r) (s.value r) (updates.on_side (s.link r) sides.Left x))
+    go Right a b = subst (λ (z : Table). OwnMoves s z r) (λ i. record s { key = λ y. same_words s.key r y i; birth = λ y. same_words s.birth r y i; height = λ y. same_words s.height r y i; value = λ y. same_words s.value r y i; link = updates.relink s.link r sides.Right x }) (at (s.key r) (s.birth r) (s.height r) (s.value r) (updates.on_side (s.link r) sides.Right x))
     go Lock a b = absurd (a refl)
     go Stamp a b = absurd (b refl)
 
-pub own_moves : (m : Memory) (g : Beside) (r : ℕ) (f : Field) (x : ℕ) → r < Rattle.std.proofs.Common.length m.rows → f ≢ Lock → f ≢ Stamp → word_kinds.MayStoreOwn (state_of m g) r → TableOk (state_of m g) → Moves (state_of m g) (state_of (record m { rows = changed m.rows r f x }) g) (λ n. n ≢ r)
-own_moves m g r f x near a b may ok = let s : Table = state_of m g in subst (λ (z : Table). Moves s z (λ n. n ≢ r)) (sym (sets m g r f x near)) (own_word s r f x a b may ok)
+pub own_moves : (m : Memory) (g : Beside) (r : ℕ) (f : Field) (x : ℕ) → r < Rattle.std.proofs.Common.length m.rows → f ≢ Lock → f ≢ Stamp → word_kinds.MayStoreOwn (state_of m g) r → TableOk (state_of m g) → OwnMoves (state_of m g) (state_of (record m { rows = changed m.rows r f x }) g) r
+own_moves m g r f x near a b may ok = let s : Table = state_of m g in subst (λ (z : Table). OwnMoves s z r) (sym (sets m g r f x near)) (own_word s r f x a b may ok)
 
 -- what a write knows of a row makes it live
 pub live_row : (s : Table) (r birth stamp : ℕ) → TableOk s → In r s.linked → s.birth r ≡ birth → birth ≡ s.epoch → s.stamp r ≡ stamp → stamp % 2 ≡ 0 → IsLive s r

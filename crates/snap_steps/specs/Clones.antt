@@ -3,10 +3,13 @@ use Rattle.std.specs.Prelude.{◌<◌, ◌≡◌, ◌≤◌, ◌⊎◌, ℕ, ◌
 use Rattle.atomic_table.specs.Seated.{TableId}
 use Rattle.snap_model.specs.History.{IsLegal, after}
 use Rattle.snap_model.specs.declared.call.Entry.{Entry}
-use Rattle.snap_rule.specs.Tree.{EachRow, Tree, Node, Between, pairs, root, value_word}
+use Rattle.snap_rule.specs.Settled.{IsSettledTree}
+use Rattle.snap_rule.specs.Tree.{EachRow, size, Tree, Node, Between, pairs, root, value_word}
 use Rattle.snap_rule.specs.Tree.Tree.{empty, node}
 use Rattle.snap_stamp.specs.declared.layout.Field.{Field}
 use Rattle.snap_stamp.specs.declared.layout.Field.TheVariants.{Key, Birth, Stamp, Lock, Height, Left, Right, Value}
+use Rattle.snap_steps.specs.declared.view.Balance.{Balance}
+use Rattle.snap_steps.specs.declared.view.Balance.TheVariants.{Settled, RowsOut, StampOut}
 use Rattle.snap_steps.specs.declared.view.WordNote.{WordNote}
 use Rattle.snap_steps.specs.declared.view.WordNote.TheVariants.{Next}
 use Rattle.snap_steps.specs.declared.view.Part.{Part}
@@ -38,24 +41,40 @@ tree_of parts = first_tree (built parts [])
 abbrev pub image_of : View → Tree
 image_of v = tree_of v.base.parts
 
--- the tree tells the map after a legal history, and its keys rise
+-- the tree tells the map after a legal history, whose length a word holds, and its keys rise
 pub record IsCloneOf (history : List Entry) (t : Tree) : Type 0 where
   pub legal : IsLegal history
   pub ordered : Between 0 (2 ^ 64) t
   pub tells : pairs t ≡ after history
+  pub short : length history < 2 ^ 64
 
 -- each row of the tree is one of a table of this size
 abbrev pub ArePlaced : ℕ → Tree → Type 0
 ArePlaced rows t = EachRow (λ r. (0 < r) × (r ≤ rows)) t
 
--- the seat of a clone: its table and how many rows that has, the history and, in its parts, the tree at the cut, the word `next` as it was loaded then, and whether the seat noted a stamp at its greatest count
+-- where so many rows of as many were handed out, the tree is settled, or every row was, or the row was whose stamp is at its greatest count
+abbrev pub IsCaused : (rows next : ℕ) → Tree → Balance → Type 0
+IsCaused rows next t Settled = IsSettledTree t
+IsCaused rows next t RowsOut = rows ≤ next
+IsCaused rows next t (StampOut row) = (0 < row) × (row ≤ next)
+
+-- so it is, and no more rows stand in the tree than were handed out
+pub record IsWeighed (rows next : ℕ) (t : Tree) (balance : Balance) : Type 0 where
+  pub caused : IsCaused rows next t balance
+  pub few : size t ≤ next
+  pub low : next ≤ rows
+
+-- the seat of a clone: its table and how many rows that has, the history and, in its parts, the tree at the cut, how many rows were handed out then and whether the tree is settled, the word `next` as it was loaded since, whether the seat noted a stamp at its greatest count, and the rows with such a stamp that it found
 pub record Cloned : Type 0 where
   pub table : TableId
   pub rows : ℕ
   pub base : List Entry
   pub parts : List Part
+  pub drawn : ℕ
+  pub balance : Balance
   pub next : ℕ
   pub worn : Bool
+  pub outworn : List ℕ
 
 -- the clone's tree
 abbrev pub image : Cloned → Tree

@@ -4,6 +4,7 @@ use Rattle.snap_rule.specs.Tree.{Tree, Node, root}
 use Rattle.snap_rule.specs.Tree.Tree.{node}
 use Rattle.snap_stamp.specs.declared.layout.Field.TheVariants.{Stamp}
 use Rattle.snap_steps.specs.Steps.Fields.{is_last}
+use Rattle.snap_steps.specs.Steps.Clones.{found_out}
 use Rattle.snap_steps.specs.Clones.{IsWithin, Cloned}
 use Rattle.snap_steps.specs.Seen.{Laid, Known}
 use Rattle.snap_steps.specs.declared.clones.RowCopy.{RowCopy}
@@ -14,11 +15,11 @@ IsCloneAt seat rows = (seat.table ≡ rows.table) × (seat.rows ≡ rows.rows)
 
 -- the clone that the pass has cut
 abbrev pub clone_of : Known → ℕ → Cloned
-clone_of k next = record { table = k.table; rows = k.view.rows; base = k.view.base.history; parts = k.view.base.parts; next = next; worn = k.view.worn }
+clone_of k next = record { table = k.table; rows = k.view.rows; base = k.view.base.history; parts = k.view.base.parts; drawn = k.view.base.drawn; balance = k.view.base.balance; next = next; worn = k.view.worn; outworn = k.view.outworn }
 
--- the seat, once it has loaded this stamp
-abbrev pub with_stamp : Cloned → ℕ → Cloned
-with_stamp c stamp = record c { worn = c.worn || is_last Stamp stamp }
+-- the seat, once it has loaded this stamp of a row
+abbrev pub with_stamp : Cloned → (row stamp : ℕ) → Cloned
+with_stamp c row stamp = record c { worn = c.worn || is_last Stamp stamp; outworn = found_out row stamp c.outworn }
 
 -- the copy has what the node has, and the rows of its two subtrees
 pub record IsCopyOf (n : Node) (a b : Tree) (copy : RowCopy) : Type 0 where

@@ -1,5 +1,5 @@
 -- What is known of a table when it is closed, by a pass that speaks for every number.
-use Rattle.std.specs.Prelude.{◌≡◌, ℕ, ◌<◌, ◌≤◌, List, [], length, true}
+use Rattle.std.specs.Prelude.{◌^◌, ◌≡◌, ℕ, ◌<◌, ◌≤◌, List, [], length, true}
 use mathlib.Core.Option.{some}
 use lib.ListN.{get_elem?}
 use Rattle.snap_model.specs.History.{IsLegal, after, calls_of}
@@ -23,6 +23,10 @@ pub record Ended : Type 0 where
 -- each number below the number of passes is that of the pass, or was admitted to it
 abbrev pub SpeaksForAll : View → Type 0
 SpeaksForAll v = (i : ℕ) → i < v.passes → Among i (numbers v)
+
+-- where a pass speaks for every number, each epoch that it noted is one of a cut that it knows
+abbrev pub KnowsCuts : View → Type 0
+KnowsCuts v = SpeaksForAll v → v.epochs ≤ all_cuts v
 
 -- the table's last state, which meets the rule
 pub record IsLastState (v : View) (drawn : ℕ) : Type 0 where
@@ -48,6 +52,7 @@ pub record Closes (pass : Known) (front : Ended) : Type 0 where
   pub last : front.last ≡ pass
   pub knows : KnowsAll pass.view
   pub writes : front.writes ≡ length pass.view.seen
+  pub few : length pass.view.seen < 2 ^ 64
   pub pairs : front.pairs ≡ length (after pass.view.seen)
   pub handed : pass.view.handed ≤ front.drawn
   pub drawn : front.drawn ≤ pass.view.rows

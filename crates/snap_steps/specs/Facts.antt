@@ -3,6 +3,7 @@ use Rattle.std.specs.Prelude.{◌==◌, Bool, ℕ, ◌&&◌, cond, List, [], ◌
 use Rattle.snap_stamp.specs.Layout.{place_of}
 use Rattle.snap_stamp.specs.declared.layout.Field.{Field}
 use Rattle.snap_stamp.specs.declared.layout.Field.TheVariants.{Birth, Stamp}
+use Rattle.snap_steps.specs.declared.view.ChildHeight.{ChildHeight}
 use Rattle.snap_steps.specs.declared.view.Fact.{Fact}
 use Rattle.snap_steps.specs.Counting.{Among}
 use Rattle.snap_steps.specs.Memory.{Row, row, field}
@@ -23,6 +24,16 @@ forgotten (x ∷ xs) r f = cond ((x.row == r) && same_field x.field f) (forgotte
 abbrev pub forgotten_row : List Fact → ℕ → List Fact
 forgotten_row [] r = []
 forgotten_row (x ∷ xs) r = cond (x.row == r) (forgotten_row xs r) (x ∷ forgotten_row xs r)
+
+-- without what was known of the heights below this row
+abbrev pub heights_forgotten : List ChildHeight → ℕ → List ChildHeight
+heights_forgotten [] r = []
+heights_forgotten (x ∷ xs) r = cond (x.row == r) (heights_forgotten xs r) (x ∷ heights_forgotten xs r)
+
+-- the word that is known of this field of this row
+abbrev pub word_in : List Fact → ℕ → Field → ℕ
+word_in [] r f = 0
+word_in (x ∷ xs) r f = cond ((x.row == r) && same_field x.field f) x.word (word_in xs r f)
 
 abbrev pub IsKnown : List Fact → ℕ → Field → ℕ → Type 0
 IsKnown [] r f x = ⊥

@@ -1,8 +1,10 @@
 -- What a seat is, and the views that seats begin and end with.
 use Rattle.std.specs.Prelude.{ℕ, Bool, List, [], ◌∷◌, false}
 use Rattle.snap_model.specs.declared.call.Entry.{Entry}
+use Rattle.snap_rule.specs.Debt.{no_debt}
 use Rattle.snap_rule.specs.declared.change.Doing.TheVariants.{Nothing}
 use Rattle.snap_rule.specs.declared.reader.Reading.TheVariants.{Resting}
+use Rattle.snap_steps.specs.declared.view.Balance.TheVariants.{Settled}
 use Rattle.snap_steps.specs.declared.view.Base.{Base}
 use Rattle.snap_steps.specs.declared.view.Role.{Role}
 use Rattle.snap_steps.specs.declared.view.Role.TheVariants.{Opening, Passing, Noting, Spent}
@@ -35,14 +37,14 @@ own_number Noting who = []
 own_number Spent who = []
 
 abbrev pub no_base : Base
-no_base = record { history = []; parts = []; noted = 0 }
+no_base = record { history = []; parts = []; noted = 0; drawn = 0; balance = Settled }
 
 abbrev pub blank : ℕ → ℕ → Role → ℕ → View
-blank rows passes role who = record { rows = rows; passes = passes; who = who; role = role; stage = Idle; seen = []; mine = []; notes = []; handed = 0; epochs = 0; worn = false; drawn = []; cuts = []; uses = 0; admitted = []; base = no_base; holds = []; knows = []; refused = []; lasting = []; reached = []; own = []; wrote = []; reads = Resting; confirmed = []; place = Resting; tries = quiet.Idle; doing = Nothing; present = []; copies = []; steps = 0; joined = [] }
+blank rows passes role who = record { rows = rows; passes = passes; who = who; role = role; stage = Idle; seen = []; mine = []; notes = []; handed = 0; epochs = 0; worn = false; drawn = []; cuts = []; uses = 0; admitted = []; base = no_base; outworn = []; holds = []; knows = []; refused = []; lasting = []; reached = []; own = []; wrote = []; reads = Resting; confirmed = []; place = Resting; tries = quiet.Idle; doing = Nothing; heights = []; debt = no_debt; present = []; copies = []; steps = 0; joined = [] }
 
 -- a seat that counts nowhere, and knows this
-abbrev pub silent : ℕ → ℕ → List Entry → ℕ → ℕ → Bool → Base → View
-silent rows passes seen handed epochs worn base = record (blank rows passes Noting 0) { seen = seen; handed = handed; epochs = epochs; worn = worn; base = base }
+abbrev pub silent : ℕ → ℕ → List Entry → ℕ → ℕ → Bool → Base → List ℕ → View
+silent rows passes seen handed epochs worn base outworn = record (blank rows passes Noting 0) { seen = seen; handed = handed; epochs = epochs; worn = worn; base = base; outworn = outworn }
 
 abbrev pub opener : ℕ → ℕ → ℕ → View
 opener rows passes who = blank rows passes Opening who

@@ -17,8 +17,13 @@ pub mod Lasting
 pub mod Bases
 pub mod Tries
 pub mod Marks
+pub mod Debts
+pub mod Heights
+pub mod Places
 use Rattle.std.specs.Prelude.{◌≡◌, ℕ, List, length}
+use Rattle.snap_rule.specs.Debt.{DebtOk}
 use Rattle.snap_rule.specs.Doing.{DoingOk}
+use Rattle.snap_rule.specs.Room.{HasRoom}
 use Rattle.snap_rule.specs.Rule.{TableOk}
 use Rattle.snap_rule.specs.State.{Beside}
 use Rattle.snap_rule.specs.State.Change.{plain}
@@ -48,6 +53,9 @@ use Rattle.snap_steps.specs.Rule.Lasting.{AreLasting}
 use Rattle.snap_steps.specs.Rule.Bases.{KnowsBase}
 use Rattle.snap_steps.specs.Rule.Tries.{KnowsTry}
 use Rattle.snap_steps.specs.Rule.Marks.{AreMarked}
+use Rattle.snap_steps.specs.Rule.Debts.{debts_of, KnowsDebt}
+use Rattle.snap_steps.specs.Rule.Heights.{AreHeights}
+use Rattle.snap_steps.specs.Rule.Places.{KnowsPlace}
 use Rattle.snap_steps.specs.Numbers.{all_cuts}
 
 pub record Kept (about : About) (words : List ℕ) (views : List View) : Type 0 where
@@ -76,9 +84,13 @@ pub record Kept (about : About) (words : List ℕ) (views : List View) : Type 0 
   pub present : Each (KnowsEpoch m.epoch) views
   pub reached : Each (λ v. AllLinked g.linked v.reached) views
   pub ways : Each (IsOnWay (state_of m g)) views
+  pub places : Each (KnowsPlace (state_of m g)) views
   pub apart : AreApart m.next m.rows g.linked views
   pub worn : Each (KnowsWorn (state_of m g)) views
   pub lasting : Each (λ v. AreLasting (state_of m g) v.lasting) views
   pub based : Each (KnowsBase (state_of m g)) views
   pub tries : Each (KnowsTry (state_of m g)) views
   pub marked : AreMarked m.rows views
+  pub heights : Each (λ v. AreHeights (state_of m g) v.holds v.heights) views
+  pub debts : Each (KnowsDebt (state_of m g)) views
+  pub owing : HasRoom (state_of m g) m.next about.rows → DebtOk (state_of m g) (debts_of views)

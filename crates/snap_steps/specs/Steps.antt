@@ -13,3 +13,8 @@ pub mod Changes
 pub mod Way
 pub mod Trying
 pub mod Clones
+pub mod Debts
+pub mod Unlinking
+pub mod Rotating
+pub mod Settling
+pub mod Tilts

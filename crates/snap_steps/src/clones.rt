@@ -7,7 +7,7 @@ ghost use Rattle.snap_steps.specs.Clones.{image, image_of, IsNotedSince, TellsWo
 ghost use Rattle.snap_steps.specs.Copies.{IsCloneAt, clone_of, with_stamp, CopiesRow};
 ghost use Rattle.snap_steps.specs.Seen.{IsOf};
 ghost use Rattle.snap_steps.specs.Stages.{has_cut};
-ghost use Rattle.snap_steps.specs.Steps.Clones.{seat_of, root_loaded, writes_counted, copied, stamp_loaded};
+ghost use Rattle.snap_steps.specs.Steps.Clones.{seat_of, root_loaded, writes_counted, copied, stamp_loaded, TellsCause};
 
 use crate::counter::Steps;
 use crate::fields::index_of;
@@ -33,7 +33,7 @@ impl Model for ViewSeat {
 
     ghost Value = { Cloned };
 
-    ghost view = { λ v. record { table = v.seat.table_id; rows = v.seat.me.0.rows; base = v.seat.me.0.base.history; parts = v.seat.me.0.base.parts; next = v.next; worn = v.seat.me.0.worn } };
+    ghost view = { λ v. record { table = v.seat.table_id; rows = v.seat.me.0.rows; base = v.seat.me.0.base.history; parts = v.seat.me.0.base.parts; drawn = v.seat.me.0.base.drawn; balance = v.seat.me.0.base.balance; next = v.next; worn = v.seat.me.0.worn; outworn = v.seat.me.0.outworn } };
 
     ghost invariant = { λ v. IsSeatOfClone v.seat.me v.top };
 }
@@ -217,11 +217,13 @@ pub fn load_row<L: Ledger>(
     }
 }
 
-/// The stamp of any row, as it is now. The seat notes one at its greatest count.
+/// The stamp of any row, as it is now. The seat notes one at its greatest count, with the row. That of the row which
+/// is the cause of the clone's balance is such a stamp.
 pub fn load_stamp(rows: &Rows, seat: &mut ViewSeat, row: RowNo) -> Stamp
     requires table { IsCloneAt seat.old rows.now }
     requires row { row ≤ rows.now.rows }
-    ensures { seat.new ≡ with_stamp seat.old result }
+    ensures seat { seat.new ≡ with_stamp seat.old row result }
+    ensures cause { TellsCause seat.old.balance row result }
 {
     let word = index_of(row, Field::Stamp);
     Stamp::of(rows.table.shared.load::<LoadStamp>(&mut seat.seat, word))

@@ -1,5 +1,6 @@
 //! Drawing rows: each is handed out once.
 ghost use Rattle.std.specs.Prelude.{◌≡◌, ◌≢◌, ◌+◌, ◌<◌, ◌≤◌, IfOk, IfErr, MatchResult};
+ghost use Rattle.snap_rule.specs.declared.change.Doing.TheVariants.{Nothing};
 ghost use Rattle.snap_steps.specs.Drawing.{HasDrawn, FoundFull};
 ghost use Rattle.snap_steps.specs.Seen.{IsOf, Becomes};
 ghost use Rattle.snap_steps.specs.Steps.Draws.{drew, drawing_tried};
@@ -30,6 +31,7 @@ impl Play<(), View> for TryDraw {
 pub fn try_draw(rows: &Rows, pass: &mut Pass, found: u32) -> Result<RowNo, u32>
     requires table { IsOf pass.old rows.now }
     requires found { found < rows.now.rows }
+    requires whole { pass.old.view.doing ≡ Nothing }
     ensures ok { IfOk result (λ r. (r ≡ found + 1) × Becomes pass.old pass.new (drew pass.old.view r)) }
     ensures err { IfErr result (λ n. (n ≢ found) × (n ≤ rows.now.rows) × Becomes pass.old pass.new (noted pass.old.view (Next n))) }
 {
@@ -48,7 +50,8 @@ pub fn try_draw(rows: &Rows, pass: &mut Pass, found: u32) -> Result<RowNo, u32>
 /// Draws a row. `Full` comes exactly where a load or failed exchange of this call found that every row was
 /// handed out. It waits for nothing but its own tries.
 pub fn draw<R: Wait>(rows: &Rows, rt: &R, pass: &mut Pass) -> Result<RowNo, Full>
-    requires { IsOf pass.old rows.now }
+    requires table { IsOf pass.old rows.now }
+    requires whole { pass.old.view.doing ≡ Nothing }
     ensures { MatchResult result (λ r. HasDrawn rows.now.rows pass.old pass.new r) (λ f. (f.rows ≡ rows.now.rows) × FoundFull rows.now.rows pass.old pass.new) }
 {
     let mut found = load_next(rows, pass);

@@ -1,5 +1,6 @@
 //! The words of a row: loads of any row, and stores in a row that the pass drew and that isn't linked.
 ghost use Rattle.std.specs.Prelude.{◌≡◌, ◌≢◌, ℕ, ◌<◌, ◌≤◌};
+ghost use Rattle.snap_rule.specs.declared.change.Doing.TheVariants.{Nothing};
 ghost use Rattle.snap_stamp.specs.Layout.{word_at};
 ghost use Rattle.snap_stamp.specs.declared.layout.Field.{Field};
 ghost use Rattle.snap_stamp.specs.declared.layout.Field.TheVariants.{Key, Lock, Stamp};
@@ -91,6 +92,7 @@ pub fn store_own(rows: &Rows, pass: &mut Pass, row: RowNo, field: Field, word: u
     requires row { row ≤ rows.now.rows }
     requires own { Among row pass.old.view.own }
     requires field { (field ≢ Lock) × (field ≢ Stamp) }
+    requires whole { pass.old.view.doing ≡ Nothing }
     ensures { Becomes pass.old pass.new (own_stored pass.old.view row field word) }
 {
     store_placed::<Brand>(rows, pass, row, field, word);
@@ -101,6 +103,7 @@ pub fn store_key(rows: &Rows, pass: &mut Pass, row: RowNo, key: Key)
     requires table { IsOf pass.old rows.now }
     requires row { row ≤ rows.now.rows }
     requires own { Among row pass.old.view.own }
+    requires whole { pass.old.view.doing ≡ Nothing }
     ensures { Becomes pass.old pass.new (own_stored pass.old.view row Key key) }
 {
     store_own(rows, pass, row, Field::Key, key);

@@ -45,6 +45,7 @@ pub fn close_rows(rows: Rows, pass: Pass) -> Front
         uses: _,
         added,
         taken,
+        to_do: _,
     } = pass;
     let closed = table.close_with(seat);
     let drawn = closed.word(0) as u32;

@@ -41,10 +41,11 @@ impl Play<(), View> for LoadEpoch {
     ghost then = { epoch_loaded };
 }
 
-/// How many rows were handed out.
+/// How many rows were handed out, which are no fewer than at the cut of a clone.
 pub fn load_next(rows: &Rows, pass: &mut Pass) -> u32
     requires { IsOf pass.old rows.now }
     ensures range { result ≤ rows.now.rows }
+    ensures since { pass.old.view.base.drawn ≤ result }
     ensures pass { Becomes pass.old pass.new (noted pass.old.view (Next result)) }
 {
     let found = rows.table.shared.load::<LoadNext>(&mut pass.seat, 0);

@@ -6,6 +6,7 @@
 #![tactic(auto)]
 
 mod absences;
+mod aiming;
 mod births;
 mod changes;
 mod clones;
@@ -18,15 +19,20 @@ mod gate;
 mod header;
 mod locks;
 mod pass;
+mod rotating;
 mod rows;
 mod rule;
 mod seats;
+mod settling;
 mod trying;
+mod turning;
+mod unlinking;
 mod view;
 mod way;
 mod writes;
 
 pub use absences::confirm_absent_below;
+pub use aiming::{aim, pass_up};
 pub use births::{load_birth, note_birth};
 pub use changes::mark_shrinking;
 pub use clones::{
@@ -41,12 +47,13 @@ pub use gate::{count_left, cut, open_gate, try_close, try_enter};
 pub use header::{load_done, load_epoch, load_gate, load_left, load_next};
 pub use locks::{free_lock, try_lock};
 pub use pass::{Note, Pass, Receipt};
+pub use rotating::{clear_shrinking, link_lowered, link_raised};
 pub use rows::Rows;
 pub use seats::{admit, finish, learn, note};
+pub use settling::{load_height, store_height};
 pub use trying::{Busy, begin_try, load_busy_gate, try_last_word, try_next_word};
-pub use view::{Admitted, Base, Fact, Part, Role, Stage, View, WordNote};
-pub use way::{load_last_word, load_next_word, set_out};
+pub use turning::link_parent;
+pub use unlinking::{mark_unlinked, splice};
+pub use view::{Admitted, Base, ChildHeight, Fact, Part, Role, Stage, View, WordNote};
+pub use way::{load_last_word, load_next_word, set_out, set_out_again};
 pub use writes::{confirm_absent, count_done, link_leaf, store_value};
-
-#[cfg(test)]
-mod tests;

@@ -79,6 +79,7 @@ pub fn finish(_rows: &Rows, pass: Pass) -> Receipt
         uses: _,
         added,
         taken,
+        to_do: _,
     } = pass;
     Receipt { seat, added, taken }
 }

@@ -1,7 +1,7 @@
 //! What a seat knows of its table: plain data for clauses and proofs, of which no value is made.
 use snap_model::Entry;
-use snap_rule::{Doing, Reading, Trying};
-use snap_stamp::Field;
+use snap_rule::{Debt, Doing, Reading, Trying};
+use snap_stamp::{Field, RowNo, Side};
 use std::collections::LinkedList;
 
 /// A word as a pass loaded it: one of the header, or the birth of a row to which all checks had led it on the way of a
@@ -52,6 +52,13 @@ pub struct Fact {
     pub word: u64,
 }
 
+/// The stored height of the child on a side of a held row.
+pub struct ChildHeight {
+    pub row: RowNo,
+    pub side: Side,
+    pub height: u64,
+}
+
 /// A part of a tree that is written down from its leaves up: each node comes after its left and its right subtree.
 pub enum Part {
     Nothing,
@@ -63,6 +70,15 @@ pub enum Part {
     },
 }
 
+/// Whether the tree of a clone is settled, and else why it isn't.
+pub enum Balance {
+    Settled,
+    /// Every row was handed out.
+    RowsOut,
+    /// The stamp of this row was at its greatest count.
+    StampOut { row: u32 },
+}
+
 /// The clone that a seat reads, or that a closing pass has cut.
 pub struct Base {
     /// The history and the tree at the cut.
@@ -70,6 +86,10 @@ pub struct Base {
     pub parts: LinkedList<Part>,
     /// How many notes the pass had then.
     pub noted: u64,
+    /// How many rows were handed out then.
+    pub drawn: u32,
+    /// Whether the tree is settled.
+    pub balance: Balance,
 }
 
 /// What a seat knows.
@@ -99,10 +119,12 @@ pub struct View {
     pub admitted: LinkedList<Admitted>,
     /// The clone that it reads, or that it cut last.
     pub base: Base,
+    /// The rows whose stamps the seat of a clone found at their greatest count.
+    pub outworn: LinkedList<u32>,
     /// The rows whose locks it holds, and what it knows of their words.
     pub holds: LinkedList<u32>,
     pub knows: LinkedList<Fact>,
-    /// The lock words for which it was refused a row.
+    /// The words for which it was refused a row: of a lock that was taken, and of a stamp at its greatest count.
     pub refused: LinkedList<Fact>,
     /// Words that change no more: births of rows that were linked, and words of rows of an earlier epoch.
     pub lasting: LinkedList<Fact>,
@@ -121,6 +143,10 @@ pub struct View {
     pub tries: Trying,
     /// The change that it is in.
     pub doing: Doing,
+    /// What it knows of the heights below the rows that it holds.
+    pub heights: LinkedList<ChildHeight>,
+    /// What it owes to the balance of the tree.
+    pub debt: Debt,
     /// What it loaded as the epoch in this write.
     pub present: LinkedList<u64>,
     /// The key for which it made copies of rows in this write.

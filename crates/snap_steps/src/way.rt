@@ -5,7 +5,7 @@ ghost use Rattle.snap_rule.specs.declared.reader.Reading.TheVariants.{On};
 ghost use Rattle.snap_steps.specs.Histories.{Extends};
 ghost use Rattle.snap_steps.specs.Seen.{IsOf, Becomes};
 ghost use Rattle.snap_steps.specs.Steps.Header.{noted};
-ghost use Rattle.snap_steps.specs.Steps.Way.{set_out_for, read_on, settled_at, IsNext, IsLast, HasBound, HasAnswer, way_begun, next_read, answer_read};
+ghost use Rattle.snap_steps.specs.Steps.Way.{set_out_for, read_on, settled_at, IsNext, IsLast, HasBound, HasAnswer, begun_again, way_begun, way_begun_again, next_read, answer_read};
 ghost use Rattle.snap_steps.specs.declared.view.WordNote.TheVariants.{Done};
 
 use crate::fields::index_of;
@@ -23,6 +23,14 @@ struct SetOut<J> {
 
 impl<J: Saying> Play<(), View> for SetOut<J> {
     ghost then = { way_begun J.key };
+}
+
+struct SetOutAgain<J> {
+    marker: PhantomData<J>,
+}
+
+impl<J: Saying> Play<(), View> for SetOutAgain<J> {
+    ghost then = { way_begun_again J.key };
 }
 
 struct ReadOn;
@@ -52,6 +60,26 @@ pub fn set_out(rows: &Rows, pass: &mut Pass, key: Key) -> u64
     ensures { (seen : _) × Extends pass.old.view seen × (result ≤ length seen) × Becomes pass.old pass.new (set_out_for (noted pass.old.view (Done result)) seen key) }
 {
     set_out_keyed::<Brand>(rows, pass, key)
+}
+
+fn set_out_again_keyed<J: Saying>(rows: &Rows, pass: &mut Pass, key: Key)
+    requires key { key ≡ J.key }
+    requires table { IsOf pass.old rows.now }
+    ensures { Becomes pass.old pass.new (begun_again pass.old.view J.key) }
+{
+    let _key = key;
+    let word = index_of(RowNo::HOLDER, Field::Stamp);
+    rows.table
+        .shared
+        .load::<SetOutAgain<J>>(&mut pass.seat, word);
+}
+
+/// Stands at row 0 on the way of the key, with what the pass has seen so far: it loads a word that never changes.
+pub fn set_out_again(rows: &Rows, pass: &mut Pass, key: Key)
+    requires { IsOf pass.old rows.now }
+    ensures { Becomes pass.old pass.new (begun_again pass.old.view key) }
+{
+    set_out_again_keyed::<Brand>(rows, pass, key);
 }
 
 /// Loads the reader's next word, which brings it to its next point, or back to row 0 where a check fails.

@@ -12,7 +12,8 @@ ghost use Rattle.snap_steps.specs.Rule.Epochs.{AllAre};
 ghost use Rattle.snap_steps.specs.Pairs.{added_by, taken_by};
 ghost use Rattle.snap_steps.specs.Seen.{IsOf, Becomes};
 ghost use Rattle.snap_steps.specs.States.{link_field};
-ghost use Rattle.snap_steps.specs.Steps.Writes.{call_of, entry, stored, made_entry, hung, counted_one, IsLeaf, IsPlace, value_stored, absent_confirmed, leaf_hung, done_counted};
+ghost use Rattle.snap_steps.specs.Steps.Debts.{OwesNothing};
+ghost use Rattle.snap_steps.specs.Steps.Writes.{call_of, entry, stored, made_entry, hung, counted_one, IsLeaf, IsPlace, after_value, value_stored, absent_confirmed, leaf_hung, done_counted};
 ghost use Rattle.snap_steps.specs.declared.view.Stage.TheVariants.{Writing};
 
 use crate::fields::index_of;
@@ -92,6 +93,8 @@ pub fn store_value(rows: &Rows, pass: &mut Pass, row: RowNo, key: Key, new: u64)
     requires key { IsKnown pass.old.view.knows row Key key }
     requires copies { AllAre key pass.old.view.copies }
     requires born { IsBorn pass.old.view row }
+    requires whole { pass.old.view.doing ≡ Nothing }
+    requires owes { OwesNothing pass.old.view }
     ensures known { (x : ℕ) → IsKnown pass.old.view.knows row Value x → result ≡ x }
     ensures entry { (log : _) × Enters pass.old.view log (entry pass.old.view.who (call_of key new) (value_of result)) × Becomes pass.old pass.new (stored pass.old.view log (entry pass.old.view.who (call_of key new) (value_of result)) row new) }
 {
@@ -102,7 +105,16 @@ pub fn store_value(rows: &Rows, pass: &mut Pass, row: RowNo, key: Key, new: u64)
         .swap::<StoreValue>(&mut pass.seat, word, new);
     pass.added = pass.added.wrapping_add(pairs_added(key, was, new));
     pass.taken = pass.taken.wrapping_add(pairs_taken(key, was, new));
+    let to_do = to_do_after(pass.to_do, key, new);
+    pass.to_do = to_do;
     was
+}
+
+// The to-do key once a value word was stored: the row's, where its value is gone.
+fn to_do_after(to_do: Option<Key>, key: Key, new: u64) -> Option<Key>
+    ensures { result ≡ after_value to_do key new }
+{
+    if new == 0 { Some(key) } else { to_do }
 }
 
 // How many pairs a value word adds to the map in the place of another.
@@ -151,6 +163,7 @@ pub fn confirm_absent(rows: &Rows, pass: &mut Pass, row: RowNo, key: Key)
     requires known { IsKnown pass.old.view.knows row Key key × IsKnown pass.old.view.knows row Value 0 }
     requires copies { AllAre key pass.old.view.copies }
     requires born { IsBorn pass.old.view row }
+    requires whole { pass.old.view.doing ≡ Nothing }
     ensures { (log : _) × Enters pass.old.view log (entry pass.old.view.who (Remove key) None) × Becomes pass.old pass.new (made_entry pass.old.view log (entry pass.old.view.who (Remove key) None)) }
 {
     confirm_keyed::<Brand>(rows, pass, row, key);
@@ -182,6 +195,7 @@ fn link_placed<J: Leaf>(
     requires place { IsPlace pass.old.view key parent field }
     requires copies { AllAre key pass.old.view.copies }
     requires whole { pass.old.view.doing ≡ Nothing }
+    requires owes { OwesNothing pass.old.view }
     ensures { (log : _) × Enters pass.old.view log (entry pass.old.view.who (Put J.key J.value) None) × Becomes pass.old pass.new (hung pass.old.view log (entry pass.old.view.who (Put J.key J.value) None) J.below J.by_field row) }
 {
     let _told = (key, value);
@@ -190,6 +204,7 @@ fn link_placed<J: Leaf>(
         .shared
         .store::<LinkLeaf<J>>(&mut pass.seat, word, row.number() as u64);
     pass.added = pass.added.wrapping_add(1);
+    pass.to_do = Some(key);
 }
 
 /// Links a row of the pass, which is a leaf with the key and the value, below the held row at which its way ends.
@@ -210,6 +225,7 @@ pub fn link_leaf(
     requires place { IsPlace pass.old.view key parent (link_field side) }
     requires copies { AllAre key pass.old.view.copies }
     requires whole { pass.old.view.doing ≡ Nothing }
+    requires owes { OwesNothing pass.old.view }
     ensures { (log : _) × Enters pass.old.view log (entry pass.old.view.who (Put key value) None) × Becomes pass.old pass.new (hung pass.old.view log (entry pass.old.view.who (Put key value) None) parent (link_field side) row) }
 {
     let field = link_of(side);
@@ -220,6 +236,7 @@ pub fn link_leaf(
 pub fn count_done(rows: &Rows, pass: &mut Pass)
     requires table { IsOf pass.old rows.now }
     requires made { pass.old.view.stage ≡ Writing true false }
+    requires whole { pass.old.view.doing ≡ Nothing }
     ensures { Becomes pass.old pass.new (counted_one pass.old.view) }
 {
     rows.table

@@ -21,7 +21,7 @@ use Rattle.snap_rule.proofs.Moments.{begins_refl}
 use Rattle.snap_rule.proofs.Trees.{way_stands}
 use Rattle.snap_rule.proofs.Updates.{changed_same, changed_other, relink_other}
 use Rattle.snap_rule.proofs.Trees.Ways.{way_with_height, way_grown}
-use Rattle.snap_rule.proofs.Evolving.Telling.{not_shared, stamp_up}
+use Rattle.snap_rule.proofs.Evolving.Telling.{not_shared, same_row, stamp_up}
 
 -- a link of row 0 or of a live row is another
 link_evolves : (s : State) (r : ℕ) (d : Side) (v : ℕ) (p : ℕ → Side → Change) → IsParent s r d → s.writers ≢ 0
@@ -168,4 +168,23 @@ header_evolves s g a w may = record {
   entered = may.up;
   none_enters = may.entering;
   quiet = λ z n h. (record { key = refl; birth = refl; stamp = refl; height = refl; value = refl; link = λ e. refl }, refl);
+}
+
+-- no step at all
+pub same_evolves : (s : State) → Evolves s s
+same_evolves s = record {
+  history = begins_refl s.history;
+  linked = λ n h. h;
+  epoch = omega arith;
+  key = λ n h. refl;
+  birth = λ n h. refl;
+  stamp = λ n h. omega arith;
+  place = λ n k w u m q. inr (inl (u, w));
+  shared = λ n h u. same_row s n;
+  unlinked = λ n h u m. absurd (u m);
+  gone = λ n h u. refl;
+  value = λ n h z. absurd (z refl);
+  entered = omega arith;
+  none_enters = λ e z. z;
+  quiet = λ z n h. (same_row s n, refl);
 }

@@ -3,9 +3,10 @@ use Rattle.std.proofs.Common.{◌≡◌, ℕ, zero, suc, ◌+◌, ◌*◌, ◌�
 use Rattle.std.proofs.lemmas.Bool.{cases_lt, cases_eq}
 use Rattle.snap_rule.specs.Tree.{Node, Tree, depth, size, entry, pairs}
 use Rattle.snap_rule.specs.Tree.Tree.{empty, node}
+use Rattle.snap_rule.proofs.Trees.Sizes.{depth_size}
 use Rattle.snap_rule.specs.Settled.{top_height, HasValue, IsFull, IsSettledTree, least}
 
-least_more : (d : ℕ) → least d ≤ least (suc d)
+pub least_more : (d : ℕ) → least d ≤ least (suc d)
 least_more zero = omega arith
 least_more (suc zero) = omega arith
 least_more (suc (suc d)) = omega (arith, least_more (suc d), least_more d)
@@ -40,10 +41,6 @@ least_size (node n a b) h l =
     let i = least_size a h.2 (omega arith) in
     let j = least_size b h.3 (omega arith) in
     least_node (depth a) (depth b) (size a) (size b) i j (omega (arith, h.0.left_low, p, q)) (omega (arith, h.0.right_low, p, q))
-
-depth_size : (t : Tree) → depth t ≤ size t
-depth_size empty = omega arith
-depth_size (node n a b) = omega (arith, depth_size a, depth_size b)
 
 -- nodes without a value are fewer than those with one
 pub size_pairs : (t : Tree) → IsSettledTree t → (size t ≤ 2 * length (pairs t)) × (IsFull t → size t + 1 ≤ 2 * length (pairs t))

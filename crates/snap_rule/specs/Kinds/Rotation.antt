@@ -1,9 +1,9 @@
 -- A rotation lowers a row and raises its child on a side, in five steps. Row gets the shrinking mark; its link on that side
 -- takes over the subtree between the two; the raised row's link across takes row; the parent's link takes the raised row,
 -- and there the tree changes; the mark is cleared with the next count. Right and left are one: d is the side of the child.
-use Rattle.std.specs.Prelude.{ℕ, ◌+◌, ◌≡◌, ◌≢◌}
+use Rattle.std.specs.Prelude.{ℕ, ◌+◌, ◌<◌, ◌≡◌, ◌≢◌}
 use Rattle.snap_stamp.specs.Sides.{other}
-use Rattle.snap_stamp.specs.Stamps.{IsLowering, IsUnmarked}
+use Rattle.snap_stamp.specs.Stamps.{IsLowering, IsUnmarked, count_of, last_count}
 use Rattle.snap_stamp.specs.declared.side.Side.{Side}
 use Rattle.snap_rule.specs.Rule.{IsLive, IsParent}
 use Rattle.snap_rule.specs.State.{State}
@@ -19,6 +19,7 @@ pub record MayMarkShrinking (s : State) (row : ℕ) : Type 0 where
   pub writing : s.writers ≢ 0
   pub live : IsLive s row
   pub unmarked : IsUnmarked (s.stamp row)
+  pub below_last : count_of (s.stamp row) < last_count
 
 -- `link_lowered`
 abbrev pub lowered_linked : State → ℕ → Side → ℕ → State

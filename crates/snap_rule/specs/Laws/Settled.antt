@@ -1,5 +1,5 @@
 -- Settled rows and trees, and what a table with room and without debts has.
-use Rattle.std.specs.Prelude.{length, ℕ, ◌*◌, ◌<◌, ◌≤◌, ◌⊎◌}
+use Rattle.std.specs.Prelude.{length, ℕ, ◌*◌, ◌<◌, ◌^◌, ◌≤◌, ◌⊎◌}
 use Rattle.snap_stamp.specs.declared.side.Side.TheVariants.{Right}
 use Rattle.snap_rule.specs.Debt.{DebtOk, OwesNone}
 use Rattle.snap_rule.specs.Evolves.{Evolves}
@@ -7,7 +7,7 @@ use Rattle.snap_rule.specs.Kinds.Clones.{MayCut, cut}
 use Rattle.snap_rule.specs.Room.{HasReason, HasRoom, StampOut}
 use Rattle.snap_rule.specs.Rule.{TableOk}
 use Rattle.snap_rule.specs.Settled.{IsSettled, IsSettledTree, greatest_height, least}
-use Rattle.snap_rule.specs.State.{IsImage, IsShared, State}
+use Rattle.snap_rule.specs.State.{In, IsImage, IsShared, State}
 use Rattle.snap_rule.specs.Tree.{Stands, Tree, depth, pairs, size}
 use Rattle.snap_rule.specs.declared.debt.Debt.{Debt}
 
@@ -35,6 +35,15 @@ abbrev pub QuietShallow : Type 0
 QuietShallow = (s : State) (debts : ℕ → Debt) (next rows : ℕ) → TableOk s → (HasRoom s next rows → DebtOk s debts)
     → HasRoom s next rows → ((j : ℕ) → OwesNone s (debts j)) → size s.tree ≤ greatest_height
     → least (depth s.tree) ≤ 2 * length (pairs s.tree)
+
+-- the pairs of a tree are fewer than the nodes of a full one of its depth
+abbrev pub PairsFew : Type 0
+PairsFew = (t : Tree) → length (pairs t) < 2 ^ depth t
+
+-- no more nodes stand in the tree than rows were handed out, so it is no deeper and has no more pairs
+abbrev pub FewStand : Type 0
+FewStand = (s : State) (next : ℕ) → TableOk s → ((n : ℕ) → In n s.linked → n ≤ next)
+    → (size s.tree ≤ next) × (depth s.tree ≤ next) × (length (pairs s.tree) ≤ next)
 
 -- a reason lasts, and excludes room
 abbrev pub ReasonLasts : Type 0

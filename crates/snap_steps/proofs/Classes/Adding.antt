@@ -1,4 +1,11 @@
 -- A seat more: a note, or a pass that is handed out; and the table at its start.
+use Rattle.snap_steps.specs.Rule.Places.{KnowsPlace}
+use Rattle.snap_rule.specs.State.{State as Table}
+use Rattle.snap_steps.specs.Rule.Debts.{KnowsDebt, debts_of}
+use Rattle.snap_steps.specs.Rule.Heights.{AreHeights}
+use Rattle.snap_rule.specs.Debt.{DebtOk, no_debt}
+use Rattle.snap_steps.proofs.Parts.Debts.{debts_same, debts_more}
+use Rattle.snap_rule.proofs.Debts.Turning.{opens_owes}
 use Rattle.std.proofs.Common.{◌≡◌, ℕ, ◌+◌, List, [], ◌∷◌, ◌++◌, refl, arith, zero, suc, ◌*◌, replicate, ap, ◌∙◌, ◌≤◌, sym, subst, ◌<◌, ◌≢◌, length, set, ⊎_elim, false, true, Bool}
 use Rattle.std.proofs.lemmas.List.{length-replicate}
 use lib.ListN.{get_elem?}
@@ -54,10 +61,10 @@ use Rattle.snap_stamp.specs.Stamps.{IsShrinking}
 use Rattle.snap_steps.specs.Rule.Lasting.{AreLasting}
 
 -- one seat more, which counts nowhere
-pub silent_more : (about : About) (words : List ℕ) (views : List View) (k : Kept about words views) (rows passes : ℕ) (seen : List Entry) (handed epochs : ℕ) (noted_worn : Bool) (base : Base)
-    → (rows ≡ about.rows) × (passes ≡ about.passes) → Begins seen k.g.history → handed ≤ k.m.next → epochs ≤ k.m.epoch → (noted_worn ≡ true → IsWorn (state_of k.m k.g)) → IsBase (state_of k.m k.g) base
-    → Kept about words (views ++ silent rows passes seen handed epochs noted_worn base ∷ [])
-silent_more about words views k rows passes seen handed epochs noted_worn base laid begins low_next low_epoch is_worn is_base = let u : View = silent rows passes seen handed epochs noted_worn base in record {
+pub silent_more : (about : About) (words : List ℕ) (views : List View) (k : Kept about words views) (rows passes : ℕ) (seen : List Entry) (handed epochs : ℕ) (noted_worn : Bool) (base : Base) (outworn : List ℕ)
+    → (rows ≡ about.rows) × (passes ≡ about.passes) → Begins seen k.g.history → handed ≤ k.m.next → epochs ≤ k.m.epoch → (noted_worn ≡ true → IsWorn (state_of k.m k.g)) → IsBase (state_of k.m k.g) base → base.drawn ≤ k.m.next
+    → Kept about words (views ++ silent rows passes seen handed epochs noted_worn base outworn ∷ [])
+silent_more about words views k rows passes seen handed epochs noted_worn base outworn laid begins low_next low_epoch is_worn is_base low_drawn = let u : View = silent rows passes seen handed epochs noted_worn base outworn in record {
   m = k.m;
   g = k.g;
   memory = k.memory;
@@ -81,7 +88,7 @@ silent_more about words views k rows passes seen handed epochs noted_worn base l
     none_later = λ r l. omega (arith, total_more (λ x. times r x.drawn) views u, k.drawn.none_later r l);
     none_zero = omega (arith, total_more (λ x. times 0 x.drawn) views u, k.drawn.none_zero);
   };
-  notes = each_more views u k.notes (λ x p. p) record { notes_are = tt; handed_is = low_next; epochs_are = low_epoch };
+  notes = each_more views u k.notes (λ x p. p) record { notes_are = tt; handed_is = low_next; epochs_are = low_epoch; drawn_is = low_drawn };
   gated = record {
     half = omega (arith, k.gated.half, total_more (λ x. in_write x.stage) views u, total_more (λ x. is_closing x.stage) views u);
     one = omega (arith, k.gated.one, total_more (λ x. is_closing x.stage) views u);
@@ -106,10 +113,14 @@ silent_more about words views k rows passes seen handed epochs noted_worn base l
   known = each_more views u k.known (λ x p. p) tt;
   reached = each_more views u k.reached (λ x p. p) tt;
   ways = each_more views u k.ways (λ x p. p) tt;
+  places = each_more views u k.places (λ x p. p) tt;
   worn = each_more views u k.worn (λ x p. p) is_worn;
   lasting = each_more views u k.lasting (λ x p. p) tt;
   based = each_more views u k.based (λ x p. p) (is_base, λ z. absurd (omega (arith, z)));
   tries = each_more views u k.tries (λ x p. p) tt;
+  heights = each_more views u k.heights (λ x p. p) tt;
+  debts = each_more views u k.debts (λ x p. p) (refl, λ _. refl);
+  owing = λ room. subst (DebtOk (state_of k.m k.g)) (λ i j. sym (debts_more views u refl j) i) (k.owing room);
   marked = λ n none. k.marked n (omega (arith, none, total_more (λ x. lowers n x.doing) views u));
   cut = omega (arith, k.cut, total_more all_cuts views u);
   acting = each_more views u k.acting (λ x p. p) (λ _. (refl, refl));
@@ -119,12 +130,12 @@ silent_more about words views k rows passes seen handed epochs noted_worn base l
 -- a note is such a seat
 pub noted_more : (about : About) (words : List ℕ) (views : List View) (k : Kept about words views) (id : ℕ) (v : View) → get_elem? views id ≡ some v → is_live v.role ≡ 1 → Kept about words (views ++ note_of v ∷ [])
 noted_more about words views k id v at live = let h = k.notes id v at in
-    silent_more about words views k v.rows v.passes v.seen v.handed v.epochs v.worn no_base (k.about_known id v at live) (k.history.seen id v at).0 h.handed_is h.epochs_are (k.worn id v at) (no_base_is (state_of k.m k.g))
+    silent_more about words views k v.rows v.passes v.seen v.handed v.epochs v.worn no_base [] (k.about_known id v at live) (k.history.seen id v at).0 h.handed_is h.epochs_are (k.worn id v at) (no_base_is (state_of k.m k.g)) (omega arith)
 
 -- and so is the seat of a clone
 pub clone_more : (about : About) (words : List ℕ) (views : List View) (k : Kept about words views) (id : ℕ) (v : View) → get_elem? views id ≡ some v → is_live v.role ≡ 1 → Kept about words (views ++ seat_of v ∷ [])
 clone_more about words views k id v at live = let h = k.notes id v at in let b = (k.based id v at).0 in
-    silent_more about words views k v.rows v.passes v.base.history v.handed v.epochs v.worn v.base (k.about_known id v at live) b.begins h.handed_is h.epochs_are (k.worn id v at) b
+    silent_more about words views k v.rows v.passes v.base.history v.handed v.epochs v.worn v.base v.outworn (k.about_known id v at live) b.begins h.handed_is h.epochs_are (k.worn id v at) b h.drawn_is
 
 empty_rows : (n : ℕ) → replicate (8 * n) 0 ≡ words_of_rows (replicate n empty_row)
 empty_rows zero = refl
@@ -169,7 +180,7 @@ starts about words few_rows few_passes zeros =
       history = record { legal = tt; seen = each_one (IsIn []) v (record { rest = []; is = refl }, tt); longest = omega arith; mine = each_one (IsTrueOf []) v ((λ e. absurd (omega arith)), tt, tt); others = λ i none. refl };
       counted = record { all = refl; few = omega arith };
       drawn = record { once = λ r. omega arith; none_later = λ r l. refl; none_zero = refl };
-      notes = each_one (KnowsHeader 0 0) v record { notes_are = tt; handed_is = omega arith; epochs_are = omega arith };
+      notes = each_one (KnowsHeader 0 0) v record { notes_are = tt; handed_is = omega arith; epochs_are = omega arith; drawn_is = omega arith };
       gated = record { half = refl; one = omega arith; at = each_one (λ u. IsAt 0 u.stage) v tt; quiet = λ some. refl };
       used = record { enough = omega arith; few = each_one HasFewUses v (omega arith, omega arith) };
       table = subst TableOk (sym state_is) opens.0;
@@ -182,16 +193,24 @@ starts about words few_rows few_passes zeros =
       known = each_one (KnowsRows m.rows) v tt;
       reached = each_one (λ u. AllLinked [] u.reached) v tt;
       ways = each_one (IsOnWay (state_of m g)) v tt;
+      places = each_one (KnowsPlace (state_of m g)) v tt;
       worn = each_one (KnowsWorn (state_of m g)) v (λ (e : false ≡ true). cc);
       lasting = each_one (λ u. AreLasting (state_of m g) u.lasting) v tt;
       based = each_one (KnowsBase (state_of m g)) v (no_base_is (state_of m g), λ z. absurd (omega (arith, z)));
       tries = each_one (KnowsTry (state_of m g)) v tt;
+      heights = each_one (λ u. AreHeights (state_of m g) u.holds u.heights) v tt;
+      debts = each_one (KnowsDebt (state_of m g)) v (refl, λ _. refl);
+      owing = λ room. subst (λ (z : Table). DebtOk z (debts_of (v ∷ []))) (sym state_is) (subst (DebtOk opened) (λ i j. sym (none_at j) i) opens_owes);
       marked = λ n none z. let zero_stamp : IsShrinking 0 = subst (λ (x : Row). IsShrinking x.stamp) (row_empty (about.rows + 1) n) z in omega (arith, zero_stamp);
       cut = refl;
       acting = each_one ActsAsPass v (λ _. (refl, refl));
       apart = record { low = λ r l. absurd (omega arith); own = each_one (IsOwn []) v (λ r l. absurd (omega arith)); fresh = λ r l z. (ap (λ (x : Row). x.lock) (row_empty (about.rows + 1) r), ap (λ (x : Row). x.stamp) (row_empty (about.rows + 1) r)); wrote = each_one (KnowsOwn m.rows) v tt };
     }
   where
+    none_at : (j : ℕ) → debts_of (opener about.rows about.passes 0 ∷ []) j ≡ no_debt
+    none_at zero = refl
+    none_at (suc j) = refl
+
     zero_word : (f : Field) (n : ℕ) → field f (row (replicate (about.rows + 1) empty_row) n) ≡ 0
     zero_word f n = ap (field f) (row_empty (about.rows + 1) n) ∙ no_word f
 
@@ -235,7 +254,7 @@ issues about id v hands idle room s k at =
         none_later = λ r l. omega (arith, all (λ x. times r x.drawn), k.drawn.none_later r l);
         none_zero = omega (arith, all (λ x. times 0 x.drawn), k.drawn.none_zero);
       };
-      notes = each_split s.views id w u k.notes (λ x p. p) (k.notes id v at) record { notes_are = tt; handed_is = omega arith; epochs_are = omega arith };
+      notes = each_split s.views id w u k.notes (λ x p. p) (k.notes id v at) record { notes_are = tt; handed_is = omega arith; epochs_are = omega arith; drawn_is = omega arith };
       gated = record {
         half = omega (arith, k.gated.half, all (λ x. in_write x.stage), all (λ x. is_closing x.stage));
         one = omega (arith, k.gated.one, all (λ x. is_closing x.stage));
@@ -260,10 +279,14 @@ issues about id v hands idle room s k at =
       known = each_split s.views id w u k.known (λ x p. p) (k.known id v at) tt;
       reached = each_split s.views id w u k.reached (λ x p. p) (k.reached id v at) tt;
       ways = each_split s.views id w u k.ways (λ x p. p) (k.ways id v at) tt;
+      places = each_split s.views id w u k.places (λ x p. p) (k.places id v at) tt;
       worn = each_split s.views id w u k.worn (λ x p. p) (k.worn id v at) (λ (e : false ≡ true). cc);
       lasting = each_split s.views id w u k.lasting (λ x p. p) (k.lasting id v at) tt;
       based = each_split s.views id w u k.based (λ x p. p) (k.based id v at) (no_base_is (state_of k.m k.g), λ z. absurd (omega (arith, z)));
       tries = each_split s.views id w u k.tries (λ x p. p) (k.tries id v at) tt;
+      heights = each_split s.views id w u k.heights (λ x p. p) (k.heights id v at) tt;
+      debts = each_split s.views id w u k.debts (λ x p. p) (k.debts id v at) (refl, λ _. refl);
+      owing = λ room. subst (DebtOk (state_of k.m k.g)) (λ i j. sym (debts_more views u refl j ∙ debts_same s.views id v w at refl j) i) (k.owing room);
       marked = λ n none. k.marked n (omega (arith, none, all (λ x. lowers n x.doing)));
       cut = omega (arith, k.cut, all all_cuts);
       acting = each_split s.views id w u k.acting (λ x p. p) (k.acting id v at) (λ z. absurd (omega (arith, z)));

@@ -1,4 +1,16 @@
 -- Steps that make the entry of a write.
+use Rattle.snap_steps.proofs.Parts.Places.{places_evolve}
+use Rattle.snap_steps.specs.Rule.Places.{KnowsPlace}
+use Rattle.snap_steps.proofs.EachView.{each_others}
+use Rattle.snap_steps.specs.Counting.{times}
+use Rattle.snap_steps.specs.Rule.Debts.{KnowsDebt, debts_of}
+use Rattle.snap_rule.specs.Debt.{DebtOk}
+use Rattle.snap_rule.specs.Room.{HasRoom}
+use Rattle.snap_rule.specs.declared.debt.Debt.{Debt}
+use Rattle.snap_rule.specs.Debt.Changes.{DebtDoing}
+use Rattle.snap_rule.specs.Updates as updates
+use Rattle.snap_steps.proofs.Parts.Debts.{owed_after, debts_known}
+use Rattle.snap_steps.proofs.Parts.Heights.{LeavesHeights, heights_kept}
 use Rattle.std.proofs.Common.{◌≡◌, ℕ, ◌+◌, ◌<◌, Bool, true, false, List, [], ◌∷◌, ◌++◌, length, set, sym, ap, ◌∙◌, subst, arith, length-append, zero, suc, refl, Some, None, ◌≢◌}
 use lib.ListN.{get_elem?}
 use mathlib.Core.Option.{some}
@@ -54,19 +66,23 @@ use Rattle.snap_steps.specs.Rule.Names.{ActsAsPass}
 use Rattle.snap_steps.proofs.Parts.Worn.{worns_evolve}
 use Rattle.snap_steps.specs.declared.view.Fact.{Fact}
 
--- the view of a pass that has made the entry e, after which these are its own rows and what it knows
-abbrev pub with_entry : View → List Entry → Entry → List ℕ → List Fact → List Fact → View
-with_entry v log e own wrote knows = record v { reads = Resting; seen = log ++ e ∷ []; mine = v.mine ++ e ∷ []; stage = Writing true false; own = own; wrote = wrote; knows = knows }
+-- the view of a pass that has made the entry e, after which these are the rows that it has reached, its own rows and what it knows
+abbrev pub with_entry : View → List Entry → Entry → (reached own : List ℕ) → List Fact → List Fact → Debt → View
+with_entry v log e reached own wrote knows debt = record v { reached = reached; heights = []; debt = debt; reads = Resting; seen = log ++ e ∷ []; mine = v.mine ++ e ∷ []; stage = Writing true false; own = own; wrote = wrote; knows = knows }
 
 -- a step of a write without its entry that writes one word of a held row, or none, and makes the entry
-pub entering : (about : About) (words : List ℕ) (views : List View) (k : Kept about words views) (id : ℕ) (v : View) (at : get_elem? views id ≡ some v) (words' : List ℕ) (rows' : List Row) (e : Entry) (b : Beside) (own : List ℕ) (wrote knows : List Fact) (away : ℕ → Type 0)
+pub entering : (about : About) (words : List ℕ) (views : List View) (k : Kept about words views) (id : ℕ) (v : View) (at : get_elem? views id ≡ some v) (words' : List ℕ) (rows' : List Row) (e : Entry) (b : Beside) (reached own : List ℕ) (wrote knows : List Fact) (debt : Debt) (away : ℕ → Type 0)
+    → AllLinked b.linked reached
     → IsMemory about words' (record k.m { rows = rows' }) → v.role ≡ Passing → v.stage ≡ Writing false false → e.who ≡ v.who → e.reply ≡ told k.g.history (call_key e.call)
     → (let g' : Beside = record b { history = k.g.history ++ e ∷ []; writers = k.g.writers } in Moves (state_of k.m k.g) (state_of (record k.m { rows = rows' }) g') away)
     → ((n : ℕ) (d : Side) → b.pending n d ≡ k.g.pending n d) → ((j : ℕ) (u : View) → get_elem? views j ≡ some u → (n : ℕ) → Concerns u.doing n → away n)
-    → AreLocked rows' (set views id (with_entry v k.g.history e own wrote knows)) → Each (KnowsRows rows') (set views id (with_entry v k.g.history e own wrote knows)) → AreApart k.m.next rows' b.linked (set views id (with_entry v k.g.history e own wrote knows)) → ((n : ℕ) → (row rows' n).stamp ≡ (row k.m.rows n).stamp)
-    → Kept about words' (set views id (with_entry v k.g.history e own wrote knows))
-entering about words views k id v at words' rows' e b own wrote knows away memory passing writing mine_is reply moves pending clear locked known apart stamps =
-    let w : View = with_entry v k.g.history e own wrote knows in
+    → AreLocked rows' (set views id (with_entry v k.g.history e reached own wrote knows debt)) → Each (KnowsRows rows') (set views id (with_entry v k.g.history e reached own wrote knows debt)) → AreApart k.m.next rows' b.linked (set views id (with_entry v k.g.history e reached own wrote knows debt)) → ((n : ℕ) → (row rows' n).stamp ≡ (row k.m.rows n).stamp)
+    → (let s' : Table = state_of (record k.m { rows = rows' }) (record b { history = k.g.history ++ e ∷ []; writers = k.g.writers }) in
+    ((j : ℕ) (u : View) → j ≢ id → get_elem? views j ≡ some u → (n : ℕ) → 0 < times n u.holds → LeavesHeights (state_of k.m k.g) s' n)
+    × DebtDoing s' v.doing debt × (HasRoom (state_of k.m k.g) k.m.next about.rows → DebtOk (state_of k.m k.g) (debts_of views) → DebtOk s' (updates.changed (debts_of views) id debt)))
+    → Kept about words' (set views id (with_entry v k.g.history e reached own wrote knows debt))
+entering about words views k id v at words' rows' e b reached own wrote knows debt away all_reached memory passing writing mine_is reply moves pending clear locked known apart stamps owed =
+    let w : View = with_entry v k.g.history e reached own wrote knows debt in
     let a : in_write v.stage ≡ 1 = ap in_write writing in let c0 : is_closing v.stage ≡ 0 = ap is_closing writing in let c : may_cut v.stage ≡ 0 = ap may_cut writing in let q : is_quiet v.stage ≡ 0 = ap is_quiet writing in
     let o : owes_count v.stage ≡ 0 = ap owes_count writing in let d : has_counted v.stage ≡ 0 = ap has_counted writing in
     let g = k.gated in
@@ -95,8 +111,9 @@ entering about words views k id v at words' rows' e b own wrote knows away memor
       doing = each_stays views id v w at (λ u. DoingOk s' u.doing) (doings_stay (state_of k.m k.g) s' views k.doing (λ j u there n x. moves.2 n (clear j u there n x))) (λ p. p);
       held = each_stays views id v w at HoldsIts k.held (λ p. p);
       present = each_stays views id v w at (KnowsEpoch k.m.epoch) k.present (λ p. (p.0, λ z. absurd (omega (arith, z))));
-      reached = each_set {P = λ u. AllLinked k.g.linked u.reached} {Q = λ u. AllLinked b.linked u.reached} views id w k.reached (λ u p. all_linked_grows k.g.linked b.linked ev.linked u.reached p) (all_linked_grows k.g.linked b.linked ev.linked v.reached (k.reached id v at));
+      reached = each_set {P = λ u. AllLinked k.g.linked u.reached} {Q = λ u. AllLinked b.linked u.reached} views id w k.reached (λ u p. all_linked_grows k.g.linked b.linked ev.linked u.reached p) all_reached;
       ways = each_set {P = IsOnWay s'} {Q = IsOnWay s'} views id w (ways_evolve (state_of k.m k.g) s' views ev k.history.seen k.ways) (λ u p. p) tt;
+      places = each_stays views id v w at (KnowsPlace s') (places_evolve (state_of k.m k.g) s' views ev k.places) (λ p. p);
       worn = each_stays views id v w at (KnowsWorn s') (worns_evolve (state_of k.m k.g) s' views ev k.worn) (λ p. p);
       lasting = each_stays views id v w at (λ u. AreLasting s' u.lasting) (lastings_evolve (state_of k.m k.g) s' views ev k.lasting) (λ p. p);
       based = each_stays views id v w at (KnowsBase s') (bases_evolve about words views k s' ev (λ none. absurd (omega (arith, a, none, term_le (λ u. in_write u.stage) views id v at)))) (λ p. (p.0, λ z. absurd (omega (arith, z))));
@@ -105,6 +122,9 @@ entering about words views k id v at words' rows' e b own wrote knows away memor
       cut = cut_stays views id v w at k.m.epoch k.cut refl refl;
       acting = each_stays views id v w at ActsAsPass k.acting (λ _ z. absurd (omega (arith, z, ap is_counted passing)));
       apart = apart;
+      heights = each_others views id v at w (λ j y ne there. heights_kept (state_of k.m k.g) s' y.holds y.heights (owed.0 j y ne there) (k.heights j y there)) tt;
+      debts = each_set {P = KnowsDebt s'} {Q = KnowsDebt s'} views id w (debts_known (state_of k.m k.g) s' views k.table ev k.doing (λ j u there n c. stamps n) k.debts) (λ u p. p) (owed.1, λ z. absurd (omega (arith, z)));
+      owing = owed_after views id v w at (state_of k.m k.g) s' k.m.next k.m.next about.rows ev (omega arith) owed.2 k.owing;
     }
 
 pub key_made : (key n : ℕ) → call_key (call_of key n) ≡ key

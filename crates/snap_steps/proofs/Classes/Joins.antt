@@ -1,5 +1,7 @@
 -- Two seats that are joined.
-use Rattle.std.proofs.Common.{◌≡◌, ℕ, ◌+◌, ◌≤◌, List, length, set, sym, refl, ap, ◌∙◌, arith, false, true, ⊎_elim}
+use Rattle.snap_rule.specs.Debt.{DebtOk}
+use Rattle.snap_steps.proofs.Parts.Debts.{debts_same}
+use Rattle.std.proofs.Common.{subst, ◌≡◌, ℕ, ◌+◌, ◌≤◌, List, length, set, sym, refl, ap, ◌∙◌, arith, false, true, ⊎_elim}
 use lib.ListN.{get_elem?}
 use mathlib.Core.Option.{some}
 use Rattle.snap_steps.specs.Counting.{times}
@@ -74,7 +76,7 @@ joining about words views k id v at other u apart more there passing not_opening
         none_later = λ r l. omega (arith, sum (λ x. times r x.drawn), k.drawn.none_later r l);
         none_zero = omega (arith, sum (λ x. times 0 x.drawn), k.drawn.none_zero);
       };
-      notes = each_join views id v b at other u gone apart there k.notes (λ x p. p) (record { notes_are = hv.notes_are; handed_is = omega (arith, hv.handed_is, hu.handed_is); epochs_are = omega (arith, hv.epochs_are, hu.epochs_are) }) (record { notes_are = tt; handed_is = omega arith; epochs_are = omega arith });
+      notes = each_join views id v b at other u gone apart there k.notes (λ x p. p) (record { notes_are = hv.notes_are; handed_is = omega (arith, hv.handed_is, hu.handed_is); epochs_are = omega (arith, hv.epochs_are, hu.epochs_are); drawn_is = hv.drawn_is }) (record { notes_are = tt; handed_is = omega arith; epochs_are = omega arith; drawn_is = omega arith });
       gated = record {
         half = omega (arith, k.gated.half, sum (λ x. in_write x.stage), sum (λ x. is_closing x.stage), ap in_write idle, ap is_closing idle);
         one = omega (arith, k.gated.one, sum (λ x. is_closing x.stage), ap is_closing idle);
@@ -101,10 +103,14 @@ joining about words views k id v at other u apart more there passing not_opening
       known = each_join views id v b at other u gone apart there k.known (λ x p. p) (k.known id v at) tt;
       reached = each_join views id v b at other u gone apart there k.reached (λ x p. p) (k.reached id v at) tt;
       ways = each_join views id v b at other u gone apart there k.ways (λ x p. p) tt tt;
+      places = each_join views id v b at other u gone apart there k.places (λ x p. p) (k.places id v at) tt;
       worn = each_join views id v b at other u gone apart there k.worn (λ x p. p) (λ saw. ⊎_elim (k.worn id v at) (k.worn other u before_u) (or_cases v.worn u.worn saw)) (λ (e : false ≡ true). cc);
       lasting = each_join views id v b at other u gone apart there k.lasting (λ x p. p) (k.lasting id v at) tt;
       based = each_join views id v b at other u gone apart there k.based (λ x p. p) (k.based id v at) (no_base_is (state_of k.m k.g), λ z. absurd (omega (arith, z)));
       tries = each_join views id v b at other u gone apart there k.tries (λ x p. p) (k.tries id v at) tt;
+      heights = each_join views id v b at other u gone apart there k.heights (λ x p. p) (k.heights id v at) tt;
+      debts = each_join views id v b at other u gone apart there k.debts (λ x p. p) (k.debts id v at) (refl, λ _. refl);
+      owing = λ room. subst (DebtOk (state_of k.m k.g)) (λ i j. sym (debts_same (set views id b) other u gone there (sym ((k.debts other u before_u).1 (ap in_write idle))) j ∙ debts_same views id v b at refl j) i) (k.owing room);
       marked = λ n none. k.marked n (omega (arith, none, sum (λ x. lowers n x.doing), none_lowers u.doing u.holds n (k.held other u before_u) (free n)));
       apart = record {
         low = k.apart.low;

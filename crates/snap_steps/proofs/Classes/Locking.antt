@@ -1,4 +1,13 @@
 -- Steps on a lock word.
+use Rattle.snap_steps.proofs.Parts.Places.{places_evolve}
+use Rattle.snap_steps.specs.Rule.Places.{KnowsPlace}
+use Rattle.snap_steps.specs.Rule.Debts.{KnowsDebt}
+use Rattle.snap_steps.specs.Rule.Heights.{AreHeights}
+use Rattle.snap_steps.specs.declared.view.ChildHeight.{ChildHeight}
+use Rattle.snap_steps.proofs.Parts.Debts.{owed_silent, debts_known}
+use Rattle.snap_steps.proofs.Parts.Heights.{LeavesHeights, heights_kept, heights_evolve, leaves_apart, heights_same}
+use Rattle.snap_steps.proofs.Tables.{lock_still}
+use Rattle.snap_rule.specs.State.{State as Table}
 use Rattle.std.proofs.Common.{◌≡◌, ◌≢◌, ℕ, ◌<◌, ◌≤◌, List, set, refl, ap, ◌∙◌, arith}
 use lib.ListN.{get_elem?}
 use mathlib.Core.Option.{some}
@@ -25,7 +34,7 @@ use Rattle.snap_steps.proofs.Totals.{total-set, term_le}
 use Rattle.snap_steps.proofs.Cells.{cell_set, changed, row_other}
 use Rattle.snap_steps.proofs.Parts.Apart.{apart_changed}
 use Rattle.snap_steps.proofs.Parts.Drawn.{drawn_stays}
-use Rattle.snap_steps.proofs.EachView.{each_stays}
+use Rattle.snap_steps.proofs.EachView.{each_set, each_stays}
 use Rattle.snap_steps.proofs.Parts.Gate.{gated_stays}
 use Rattle.snap_steps.proofs.Parts.History.{history_stays}
 use Rattle.snap_steps.proofs.Parts.Names.{named_stays}
@@ -42,14 +51,19 @@ use Rattle.snap_steps.specs.Rule.Names.{ActsAsPass}
 use Rattle.snap_steps.proofs.Parts.Worn.{worns_evolve}
 
 -- a step on a lock word
-pub locking : (about : About) (words : List ℕ) (views : List View) (k : Kept about words views) (id : ℕ) (v : View) (at : get_elem? views id ≡ some v) (r n : ℕ) (low : r ≤ about.rows) (holds : List ℕ) (knows : List Fact)
-    → in_write v.stage ≡ 1 → AreLocked (changed k.m.rows r Lock n) (set views id (record v { holds = holds; knows = knows })) → Each (KnowsRows (changed k.m.rows r Lock n)) (set views id (record v { holds = holds; knows = knows })) → (0 < r → 0 < times r k.g.linked) → HoldsIts (record v { holds = holds; knows = knows })
-    → Kept about (set words (word_at r Lock) n) (set views id (record v { holds = holds; knows = knows }))
-locking about words views k id v at r n low holds knows writing are_locked known is_linked held =
-    let w : View = record v { holds = holds; knows = knows } in let rows' : List Row = changed k.m.rows r Lock n in let wide = k.memory.wide in
+pub locking : (about : About) (words : List ℕ) (views : List View) (k : Kept about words views) (id : ℕ) (v : View) (at : get_elem? views id ≡ some v) (r n : ℕ) (low : r ≤ about.rows) (holds : List ℕ) (knows : List Fact) (heights : List ChildHeight)
+    → in_write v.stage ≡ 1 → AreLocked (changed k.m.rows r Lock n) (set views id (record v { holds = holds; knows = knows; heights = heights })) → Each (KnowsRows (changed k.m.rows r Lock n)) (set views id (record v { holds = holds; knows = knows; heights = heights })) → (0 < r → 0 < times r k.g.linked) → AreHeights (state_of k.m k.g) holds heights → HoldsIts (record v { holds = holds; knows = knows; heights = heights })
+    → Kept about (set words (word_at r Lock) n) (set views id (record v { holds = holds; knows = knows; heights = heights }))
+locking about words views k id v at r n low holds knows heights writing are_locked known is_linked heights_are held =
+    let w : View = record v { holds = holds; knows = knows; heights = heights } in let rows' : List Row = changed k.m.rows r Lock n in let wide = k.memory.wide in
     let some_writer : k.g.writers ≢ 0 = λ z. omega (arith, k.writers, term_le (λ u. in_write u.stage) views id v at) in
+    let st : Table = state_of k.m k.g in let s' : Table = state_of (record k.m { rows = rows' }) k.g in
     let moves = lock_moves k.m k.g r n (omega arith) some_writer k.table in
+    let leaves : (y : ℕ) → LeavesHeights st s' y = λ y. leaves_apart st s' y (moves.2 y tt) (heights_same k.m.rows r (with_field Lock n (row k.m.rows r)) (omega arith) refl) in
     record {
+      heights = each_set {P = λ u. AreHeights s' u.holds u.heights} {Q = λ u. AreHeights s' u.holds u.heights} views id w (heights_evolve st s' views (λ j u there y c. leaves y) k.heights) (λ u p. p) (heights_kept st s' holds heights (λ y c. leaves y) heights_are);
+      debts = each_stays views id v w at (KnowsDebt s') (debts_known st s' views k.table moves.0 k.doing (λ j u there y c. (moves.2 y tt).stamp) k.debts) (λ p. p);
+      owing = owed_silent views id v w at st s' k.m.next k.m.next about.rows moves.0 (omega arith) (lock_still k.m k.g r n (omega arith)) refl k.owing;
       m = record k.m { rows = rows' };
       g = k.g;
       memory = cell_set k.memory r Lock low n;
@@ -71,6 +85,7 @@ locking about words views k id v at r n low holds knows writing are_locked known
       present = each_stays views id v w at (KnowsEpoch k.m.epoch) k.present (λ p. p);
       reached = each_stays views id v w at (λ u. AllLinked k.g.linked u.reached) k.reached (λ p. p);
       ways = each_stays views id v w at (IsOnWay (state_of (record k.m { rows = rows' }) k.g)) (ways_evolve (state_of k.m k.g) (state_of (record k.m { rows = rows' }) k.g) views moves.0 k.history.seen k.ways) (λ p. p);
+      places = each_stays views id v w at (KnowsPlace (state_of (record k.m { rows = rows' }) k.g)) (places_evolve (state_of k.m k.g) (state_of (record k.m { rows = rows' }) k.g) views moves.0 k.places) (λ p. p);
       worn = each_stays views id v w at (KnowsWorn (state_of (record k.m { rows = rows' }) k.g)) (worns_evolve (state_of k.m k.g) (state_of (record k.m { rows = rows' }) k.g) views moves.0 k.worn) (λ p. p);
       lasting = each_stays views id v w at (λ u. AreLasting (state_of (record k.m { rows = rows' }) k.g) u.lasting) (lastings_evolve (state_of k.m k.g) (state_of (record k.m { rows = rows' }) k.g) views moves.0 k.lasting) (λ p. p);
       based = each_stays views id v w at (KnowsBase (state_of (record k.m { rows = rows' }) k.g)) (bases_evolve about words views k (state_of (record k.m { rows = rows' }) k.g) moves.0 (λ _. refl)) (λ p. p);

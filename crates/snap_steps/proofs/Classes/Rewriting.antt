@@ -1,5 +1,15 @@
 -- Steps on a word of a held row that make no entry.
-use Rattle.std.proofs.Common.{◌≡◌, ◌≢◌, ℕ, List, set, refl, arith}
+use Rattle.snap_steps.proofs.Parts.Places.{places_evolve}
+use Rattle.snap_steps.specs.Rule.Places.{KnowsPlace}
+use Rattle.snap_steps.specs.Rule.Debts.{KnowsDebt, debts_of}
+use Rattle.snap_steps.specs.Rule.Heights.{AreHeights}
+use Rattle.snap_rule.specs.Debt.{DebtOk}
+use Rattle.snap_rule.specs.Room.{HasRoom}
+use Rattle.snap_rule.specs.Updates as updates
+use Rattle.snap_steps.proofs.Parts.Debts.{owed_after, debt_known}
+use Rattle.snap_steps.proofs.Parts.Heights.{LeavesHeights, heights_kept}
+use Rattle.snap_steps.specs.Counting.{times}
+use Rattle.std.proofs.Common.{◌<◌, ◌≡◌, ◌≢◌, ℕ, List, set, refl, arith}
 use lib.ListN.{get_elem?}
 use mathlib.Core.Option.{some}
 use Rattle.snap_rule.proofs.InChange.{doing_kept}
@@ -44,7 +54,7 @@ use Rattle.snap_steps.proofs.Parts.Worn.{worns_evolve}
 
 -- the view v, in what such a step may change, as w is
 abbrev pub with_words : View → View → View
-with_words v w = record v { steps = w.steps; doing = w.doing; knows = w.knows; own = w.own; wrote = w.wrote; reached = w.reached; copies = w.copies }
+with_words v w = record v { steps = w.steps; doing = w.doing; knows = w.knows; own = w.own; wrote = w.wrote; reached = w.reached; copies = w.copies; heights = w.heights; debt = w.debt }
 
 -- the class of these steps
 pub rewriting : (about : About) (words : List ℕ) (views : List View) (k : Kept about words views) (id : ℕ) (v w : View) (at : get_elem? views id ≡ some v) (words' : List ℕ) (rows' : List Row) (b : Beside) (away : ℕ → Type 0)
@@ -53,8 +63,11 @@ pub rewriting : (about : About) (words : List ℕ) (views : List View) (k : Kept
     → ((n : ℕ) (d : Side) → total (λ u. changing n d u.doing) (set views id (with_words v w)) ≡ 0 → b.pending n d ≡ plain)
     → HoldsIts (with_words v w) → ((j : ℕ) (u : View) → j ≢ id → get_elem? views j ≡ some u → (n : ℕ) → Concerns u.doing n → away n)
     → AreLocked rows' (set views id (with_words v w)) → Each (KnowsRows rows') (set views id (with_words v w)) → AllLinked b.linked w.reached → AreApart k.m.next rows' b.linked (set views id (with_words v w)) → AreMarked rows' (set views id (with_words v w))
+    → (let s' : Table = state_of (record k.m { rows = rows' }) (record b { history = k.g.history; writers = k.g.writers }) in
+    ((j : ℕ) (u : View) → j ≢ id → get_elem? views j ≡ some u → (n : ℕ) → 0 < times n u.holds → LeavesHeights (state_of k.m k.g) s' n) × AreHeights s' v.holds w.heights
+    × KnowsDebt s' (with_words v w) × (HasRoom (state_of k.m k.g) k.m.next about.rows → DebtOk (state_of k.m k.g) (debts_of views) → DebtOk s' (updates.changed (debts_of views) id w.debt)))
     → Kept about words' (set views id (with_words v w))
-rewriting about words views k id v w at words' rows' b away memory moves pending held clear locked known reached apart marked =
+rewriting about words views k id v w at words' rows' b away memory moves pending held clear locked known reached apart marked owed =
     let u : View = with_words v w in
     let g' : Beside = record b { history = k.g.history; writers = k.g.writers } in
     let s : Table = state_of k.m k.g in let s' : Table = state_of (record k.m { rows = rows' }) g' in let ev = moves.0.0 in
@@ -80,6 +93,7 @@ rewriting about words views k id v w at words' rows' b away memory moves pending
       present = each_stays views id v u at (KnowsEpoch k.m.epoch) k.present (λ p. p);
       reached = each_set {P = λ u. AllLinked k.g.linked u.reached} {Q = λ u. AllLinked b.linked u.reached} views id u k.reached (λ x p. all_linked_grows k.g.linked b.linked ev.linked x.reached p) reached;
       ways = each_stays views id v u at (IsOnWay s') (ways_evolve s s' views ev k.history.seen k.ways) (λ p. p);
+      places = each_stays views id v u at (KnowsPlace s') (places_evolve s s' views ev k.places) (λ p. p);
       worn = each_stays views id v u at (KnowsWorn s') (worns_evolve s s' views ev k.worn) (λ p. p);
       lasting = each_stays views id v u at (λ u. AreLasting s' u.lasting) (lastings_evolve s s' views ev k.lasting) (λ p. p);
       based = each_stays views id v u at (KnowsBase s') (bases_evolve about words views k s' ev (λ _. refl)) (λ p. p);
@@ -88,4 +102,7 @@ rewriting about words views k id v w at words' rows' b away memory moves pending
       cut = cut_stays views id v u at k.m.epoch k.cut refl refl;
       acting = each_stays views id v u at ActsAsPass k.acting (λ p. p);
       apart = apart;
+      heights = each_others views id v at u (λ j y ne there. heights_kept s s' y.holds y.heights (owed.0 j y ne there) (k.heights j y there)) owed.1;
+      debts = each_others views id v at u (λ j y ne there. debt_known s s' y k.table ev (k.doing j y there) (λ n c. (moves.0.2 n (clear j y ne there n c)).stamp) (k.debts j y there)) owed.2;
+      owing = owed_after views id v u at s s' k.m.next k.m.next about.rows ev (omega arith) owed.3 k.owing;
     }

@@ -1,4 +1,5 @@
 -- Confirming that a key is absent below the row at which its way ends keeps the rule.
+use Rattle.snap_steps.proofs.Keeps.Writes.{absent_owed}
 use Rattle.std.proofs.Common.{◌≡◌, ◌≢◌, ℕ, ◌⊎◌, inl, inr, false, get_or, set, sym, refl, ap, ◌∙◌, arith, None}
 use Rattle.atomic_table.specs.Table.{step, keeps, Allows}
 use Rattle.snap_model.specs.History.{told}
@@ -61,10 +62,10 @@ confirms_below about slots id me r key f passing writing place whole s k wide at
       w,
       keeps,
       tt,
-      entering about s.words s.views k id v at (set s.words (word_at r f) (get_or s.words (word_at r f) 0)) k.m.rows e k.g v.own v.wrote v.knows Anywhere (loaded k.memory (word_at r f)) passing writing refl (sym none_there) moves (λ n d. refl) (λ j u there n c. tt)
+      entering about s.words s.views k id v at (set s.words (word_at r f) (get_or s.words (word_at r f) 0)) k.m.rows e k.g v.reached v.own v.wrote v.knows v.debt Anywhere (k.reached id v at) (loaded k.memory (word_at r f)) passing writing refl (sym none_there) moves (λ n d. refl) (λ j u there n c. tt)
           (locked_stays s.views id v w at k.m.rows k.locked refl refl (λ x. omega (arith, k.locked.writing id v at x, ap in_write writing)))
           (each_stays s.views id v w at (KnowsRows k.m.rows) k.known (λ p. p))
-          (apart_stays s.views id v w at k.m.next k.m.next k.m.rows k.g.linked k.apart (omega arith) (λ p. p) (λ p. p)) (λ n. refl),
+          (apart_stays s.views id v w at k.m.next k.m.next k.m.rows k.g.linked k.apart (omega arith) (λ p. p) (λ p. p)) (λ n. refl) (absent_owed k id v at e moves),
       (k.g.history, record { goes_on = seen.0; legal = legal_more k.g.history e k.history.legal (sym none_there); own = sym own.0 }, refl),
     )
   where

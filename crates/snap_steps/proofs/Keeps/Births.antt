@@ -62,7 +62,7 @@ loads_birth about slots id me r low came s k wide at small =
       born v r b,
       keeps,
       tt,
-      seeing about s.words s.views k (word_at r Birth) id v (born v r b) at f.facts f.reached (k.ways id v at) (k.present id v at) (k.notes id v at) f.worn f.lasting (begins_itself v.seen) seen.0 seen.1,
+      seeing about s.words s.views k (word_at r Birth) id v (born v r b) at f.facts f.reached (k.ways id v at) (k.places id v at) (k.present id v at) (k.notes id v at) f.worn f.lasting (begins_itself v.seen) seen.0 seen.1,
       λ r' same. let t = one_word r r' Birth Birth same in (ap (λ (z : ℕ). (born v z b, me.1)) t.0, f.past),
     )
 
@@ -78,6 +78,6 @@ notes_birth about slots id me r key point low came way confirmed s k wide at sma
       w,
       keeps,
       tt,
-      seeing about s.words s.views k (word_at r Birth) id v w at f.facts f.reached (k.ways id v at) (k.present id v at) (header_more k.m.next k.m.epoch v (notes.Birth key b) (k.notes id v at) tt) f.worn f.lasting (begins_itself v.seen) seen.0 seen.1,
+      seeing about s.words s.views k (word_at r Birth) id v w at f.facts f.reached (k.ways id v at) (k.places id v at) (k.present id v at) (header_more k.m.next k.m.epoch v (notes.Birth key b) (k.notes id v at) tt) f.worn f.lasting (begins_itself v.seen) seen.0 seen.1,
       λ r' key' point' same way'. let t = one_word r r' Birth Birth same in let q = one_key key key' point point' v.reads way way' in ((λ i. (birth_noted v (q i) (t.0 i) b, me.1)), f.past, confirmed ∙ ap (λ (z : ℕ). z ∷ []) t.0),
     )

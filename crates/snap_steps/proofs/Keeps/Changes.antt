@@ -1,4 +1,24 @@
 -- Marking a row as shrinking keeps the rule.
+use Rattle.snap_rule.specs.Debt.{DebtOk, OwesNone}
+use Rattle.snap_rule.specs.Debt.Changes.{DebtDoing, AimsAtTurn}
+use Rattle.snap_rule.specs.Debt.Kinds.{shrink_debt}
+use Rattle.snap_rule.specs.Debt.Lists.{Aims}
+use Rattle.snap_rule.specs.Room.{HasRoom}
+use Rattle.snap_rule.specs.Tree.{Stands}
+use Rattle.snap_rule.specs.Updates as updates
+use Rattle.snap_rule.specs.declared.debt.Debt.{Debt}
+use Rattle.snap_rule.specs.declared.debt.Mark.{Mark}
+use Rattle.snap_rule.proofs.Debts.{noted_here}
+use Rattle.snap_rule.proofs.Debts.Turns.{not_zero, shrink_owes}
+use Rattle.snap_rule.proofs.Updates.{changed_same}
+use Rattle.snap_steps.specs.Roles.{is_live}
+use Rattle.snap_steps.specs.Rule.Debts.{debts_of}
+use Rattle.snap_steps.specs.Steps.Changes.{TurnsFor, AimsAt}
+use Rattle.snap_steps.proofs.Owing.{owes_none, no_room, held_free, listing_is}
+use Rattle.snap_steps.proofs.Parts.Debts.{debts_at}
+use Rattle.snap_steps.proofs.Parts.Heights.{leaves_apart, heights_same, heights_kept, heights_plain}
+use Rattle.std.proofs.Common.{⊎_elim, Some}
+use Rattle.snap_stamp.specs.declared.layout.Field.TheVariants.{Key}
 use Rattle.std.proofs.Common.{◌≡◌, ◌≢◌, ℕ, refl, inl, inr, sym, ◌∙◌, arith, List, ap, ◌<◌, ◌⊎◌, ◌+◌, ◌%◌, ◌≤◌, length, set, subst}
 use lib.ListN.{get_elem?}
 use mathlib.Core.Logic.{dite}
@@ -17,7 +37,7 @@ use Rattle.snap_rule.specs.declared.change.Doing.{Doing}
 use Rattle.snap_rule.specs.declared.change.Doing.TheVariants.{Nothing, Unlinked, Shrunk, Lowered, Lifted, Turned}
 use Rattle.snap_stamp.specs.Layout.{word_at}
 use Rattle.snap_stamp.specs.Sides.{other}
-use Rattle.snap_stamp.specs.Stamps.{IsUnmarked, IsShrinking}
+use Rattle.snap_stamp.specs.Stamps.{IsUnmarked, IsShrinking, count_of, last_count}
 use Rattle.snap_stamp.specs.declared.layout.Field.TheVariants.{Stamp}
 use Rattle.snap_stamp.specs.declared.side.Side.{Side}
 use Rattle.snap_steps.specs.Rule.Changes.{at_link, changing}
@@ -51,7 +71,7 @@ use Rattle.snap_rule.specs.Rule as rule
 use Rattle.snap_rule.specs.Kinds.Rotation as rotation_kinds
 use Rattle.snap_steps.specs.Rule.History.{whole}
 
-link_is : (n m : ℕ) (d e : Side) → at_link n d m e ≢ 0 → (n ≡ m) × (d ≡ e)
+pub link_is : (n m : ℕ) (d e : Side) → at_link n d m e ≢ 0 → (n ≡ m) × (d ≡ e)
 link_is n m sides.Left sides.Left h = (dite (ℕ_discrete n m) (λ q. q) (λ ne. absurd (h (one_other n m ne))), refl)
 link_is n m sides.Left sides.Right h = absurd (h refl)
 link_is n m sides.Right sides.Left h = absurd (h refl)
@@ -86,11 +106,14 @@ module _ {about : About} {words : List ℕ} {views : List View} (k : Kept about 
       (λ ne. not_raising (state_of k.m k.g) u.doing n e r (k.doing j u there) q (λ c. omega (arith, k.held j u there r c, others_apart views id v at k.m.rows r k.locked held j u ne there))))) in
       let x : plain ≡ raising r = sym z ∙ q in cc
 
+abbrev turning_debt : ℕ → ℕ → List Mark → Debt
+turning_debt key r l = record { to_do = Some key; list = l; turning = Some r }
+
 -- `mark_shrinking`
-pub shrinks : (about : About) (slots id : ℕ) (me : Sat) (parent : ℕ) (p : Side) (r : ℕ) (d : Side) (raised x : ℕ) → r ≤ about.rows → IsTurn me.0 parent p r d raised → IsKnown me.0.knows r Stamp x → x % 4 ≡ 0 → me.0.doing ≡ Nothing
-    → Allows (Rule about) slots id me (word_at r Stamp) (λ _. x + 2) (λ _. shrinking_stored parent p r d raised (step slots (word_at r Stamp) (x + 2) 0 maybe.none) me 0)
-shrinks about slots id me parent p r d raised x low turn stamp_known unmarked whole s k wide at small =
-    let v : View = me.0 in let w : View = shrunk v parent p r d raised (x + 2) in let rows_wide = k.memory.wide in let near : r < length k.m.rows = omega arith in
+pub shrinks : (about : About) (slots id : ℕ) (me : Sat) (parent : ℕ) (p : Side) (r : ℕ) (d : Side) (raised x key : ℕ) → r ≤ about.rows → is_live me.0.role ≡ 1 → IsTurn me.0 parent p r d raised → TurnsFor me.0 parent r raised key → IsKnown me.0.knows r Stamp x → x % 4 ≡ 0 → count_of x < last_count → me.0.doing ≡ Nothing
+    → Allows (Rule about) slots id me (word_at r Stamp) (λ _. x + 2) (λ _. shrinking_stored parent p r d raised key (step slots (word_at r Stamp) (x + 2) 0 maybe.none) me 0)
+shrinks about slots id me parent p r d raised x key low is_pass turn aims stamp_known unmarked below_last whole s k wide at small =
+    let v : View = me.0 in let w : View = shrunk v parent p r d raised (x + 2) key in let rows_wide = k.memory.wide in let near : r < length k.m.rows = omega arith in
     let o : Row = with_field Stamp (x + 2) (row k.m.rows r) in let rows' : List Row = changed k.m.rows r Stamp (x + 2) in let st : Table = state_of k.m k.g in
     let known = k.known id v at in let present = (k.present id v at).0 in
     let linked : (n : ℕ) → 0 < times n v.reached → In n k.g.linked = λ n. in_of k.g.linked v.reached n (k.reached id v at) in
@@ -113,10 +136,21 @@ shrinks about slots id me parent p r d raised x low turn stamp_known unmarked wh
       apart = turn.apart;
     } in
     let clean : IsUnmarked (st.stamp r) = ap (λ (y : ℕ). y % 4) stamp ∙ unmarked in
-    let may : rotation_kinds.MayMarkShrinking st r = record { writing = some_write s.views id v k.g.writers at k.writers writing; live = live; unmarked = clean } in
+    let may : rotation_kinds.MayMarkShrinking st r = record { writing = some_write s.views id v k.g.writers at k.writers writing; live = live; unmarked = clean; below_last = subst (λ (y : ℕ). count_of y < last_count) (sym stamp) below_last } in
     let s' : Table = state_of (record k.m { rows = rows' }) k.g in
     let path : s' ≡ rotation_kinds.shrinking_marked st r = sets k.m k.g r Stamp (x + 2) near ∙ ap (λ (y : ℕ). with_word st r Stamp (y + 2)) (sym stamp) in
     let away : ℕ → Type 0 = λ (n : ℕ). n ≢ r in
+    let marked_st : Table = rotation_kinds.shrinking_marked st r in
+    let new_stamp : marked_st.stamp r ≡ x + 2 = changed_same st.stamp r (st.stamp r + 2) ∙ ap (λ y. y + 2) stamp in
+    let debt_is : shrink_debt marked_st r key v.debt ≡ w.debt = ap (turning_debt key r) (listing_is marked_st r (x + 2) v.debt.list new_stamp) in
+    let debt_at : debts_of s.views id ≡ v.debt = debts_at s.views id v at in
+    let parent_links : k.g.links parent p ≡ r = sym (subst (kinds_fits st parent p) (plain_at parent turn.held_parent p) (k.table.changes.fits parent p (parent_stands st p is_turn.parent_live))) ∙ child in
+    let key_of : (n y : ℕ) → IsKnown v.knows n Key y → st.key n ≡ y = λ n y. known_is k.m.rows v.holds v.knows n Key y known in
+    let key_is : AimsAtTurn marked_st (shrink_debt marked_st r key v.debt) r raised = ⊎_elim (λ h. inl (ap Some (sym (key_of r key h.0)))) (λ h. inr (ap Some (sym (key_of raised key h.0)))) aims in
+    let aims_at : (n : ℕ) → AimsAt v n → Aims st (debts_of s.views id) n = λ n h. (h.is_row, ap (λ (u : Debt). u.to_do) debt_at ∙ h.to_do ∙ ap Some (sym (key_of n h.key h.is_key))) in
+    let owe : HasRoom st k.m.next about.rows → (key ≡ st.key r) × (OwesNone st (debts_of s.views id) ⊎ Aims st (debts_of s.views id) r ⊎ Aims st (debts_of s.views id) parent) ⊎ (key ≡ st.key raised) × ((debts_of s.views id).to_do ≡ Some key) = λ room.
+    ⊎_elim (λ h. inl (sym (key_of r key h.0), elim h.1 [ inl n ↦ inl (owes_none k id v at is_pass (inl n) room) | inr y ↦ elim y [ inl w ↦ inl (owes_none k id v at is_pass (inr w) room) | inr z ↦ elim z [ inl a ↦ inr (inl (aims_at r a)) | inr b ↦ inr (inr (aims_at parent b)) ] ] ]))
+    (λ h. elim h.1 [ inl w ↦ absurd (no_room k id v at is_pass w room) | inr t ↦ inr (sym (key_of raised key h.0), ap (λ (u : Debt). u.to_do) debt_at ∙ t) ]) aims in
     let moves : Moves st s' away × DoingOk s' (Shrunk parent p r d raised) = subst (λ (z : Table). Moves st z away × DoingOk z (Shrunk parent p r d raised)) (sym path)
     ((shrink_evolves st r may, shrink_keeps st k.table r may, λ n ne. shrink_apart st n r ne), shrink_doing st parent p r d raised is_turn clean (plain_at r turn.held d) (held_not_named k id v at whole r turn.held)) in (
       w,
@@ -133,7 +167,26 @@ shrinks about slots id me parent p r d raised x low turn stamp_known unmarked wh
           (apart_changed s.views id v w at k.m.next k.m.rows k.g.linked k.apart (λ u j there. omega (arith, k.drawn.none_zero, term_le (λ y. times 0 y.drawn) s.views j u there)) r o
           (λ y pos z ne. let q = row_other k.m.rows r y o ne in let f = k.apart.fresh y pos z in (ap (λ (i : Row). i.lock) q ∙ f.0, ap (λ (i : Row). i.stamp) q ∙ f.1)) (λ pos. in_times r k.g.linked (linked r turn.reached)) refl refl refl)
           (λ n none. let sum = total-set (λ u. lowers n u.doing) s.views id v w at in let was : lowers n v.doing ≡ 0 = ap (lowers n) whole in dite (ℕ_discrete n r) (λ e z. absurd (omega (arith, none, sum, was, one_same n r e)))
-          (λ ne z. k.marked n (omega (arith, none, sum, was)) (subst (λ (y : Row). IsShrinking y.stamp) (row_other k.m.rows r n o ne) z))),
+          (λ ne z. k.marked n (omega (arith, none, sum, was)) (subst (λ (y : Row). IsShrinking y.stamp) (row_other k.m.rows r n o ne) z))) (
+            (λ j u ne there n c. leaves_apart st s' n (moves.0.2 n (λ q. omega (arith, c, others_apart s.views id v at k.m.rows r k.locked turn.held j u ne there, ap (λ (i : ℕ). times i u.holds) q))) (heights_same k.m.rows r o near refl)),
+            heights_kept st s' v.holds v.heights (λ n c. ((λ l. subst (λ (z : Table). IsLive z n) (sym path) (record { stands = l.stands; own = λ h. l.own (record { is_row = h.is_row; older = h.older }) })), λ l e. heights_plain s' st n e (heights_same k.m.rows r o near refl) refl)) (k.heights id v at),
+            (
+              subst (λ (z : Table). DebtDoing z (Shrunk parent p r d raised) w.debt) (sym path) (subst (DebtDoing marked_st (Shrunk parent p r d raised)) debt_is
+                  (record { turning = refl; owes = noted_here marked_st r v.debt.list (not_zero st k.table r live.stands) }, key_is)),
+              (λ z. absurd (omega (arith, z, writing))),
+            ),
+            λ room ok. subst (λ (z : Table). DebtOk z (updates.changed (debts_of s.views) id w.debt)) (sym path)
+                (subst (λ (u : Debt). DebtOk marked_st (updates.changed (debts_of s.views) id u)) (ap (shrink_debt marked_st r key) debt_at ∙ debt_is)
+                (shrink_owes st (debts_of s.views) id parent p r d raised key k.table ok (record {
+                  parent_live = is_turn.parent_live;
+                  live = live;
+                  child = parent_links;
+                  raised_child = links;
+                  is_raised = not_zero st k.table raised is_turn.raised_live.stands;
+                  to_do = owe room;
+                  free = held_free k id v at r turn.held;
+                }))),
+          ),
       refl,
     )
   where
@@ -143,6 +196,10 @@ shrinks about slots id me parent p r d raised x low turn stamp_known unmarked wh
     parent_is : (s : Table) (p : Side) → ((parent ≡ 0) × (p ≡ sides.Right)) ⊎ ((0 < times parent me.0.reached) × IsBorn me.0 parent) → (0 < times parent me.0.reached → IsBorn me.0 parent → IsLive s parent) → rule.IsParent s parent p
     parent_is s p (inl z) f = inl z
     parent_is s p (inr h) f = inr (f h.0 h.1)
+
+    parent_stands : (s : Table) (p : Side) → rule.IsParent s parent p → (parent ≡ 0) ⊎ Stands parent s.tree
+    parent_stands s p (inl z) = inl z.0
+    parent_stands s p (inr l) = inr l.stands
 
     concerned : (v : View) → IsTurn v parent p r d raised → (n : ℕ) → (n ≡ parent) ⊎ (n ≡ r) ⊎ (n ≡ raised) → 0 < times n v.holds
     concerned v t n (inl e) = subst (λ (y : ℕ). 0 < times y v.holds) (sym e) t.held_parent

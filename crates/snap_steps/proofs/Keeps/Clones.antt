@@ -17,14 +17,17 @@ use Rattle.snap_steps.specs.Counting.{total}
 use Rattle.snap_steps.specs.Memory.{Memory, field, row}
 use Rattle.snap_steps.specs.Roles.{is_live}
 use Rattle.snap_steps.specs.Rule.{Kept}
+use Rattle.snap_steps.specs.Rule.Bases.{HasCause}
 use Rattle.snap_steps.specs.Rule.Worn.{KnowsWorn}
 use Rattle.snap_steps.specs.Stages.{has_cut, in_write, is_quiet, owes_count}
 use Rattle.snap_steps.specs.States.{link_field, state_of}
 use Rattle.snap_steps.specs.declared.view.Role.TheVariants.{Passing}
-use Rattle.snap_steps.specs.Steps.Clones.{seat_of, root_loaded, writes_counted, copied, stamp_noted, stamp_loaded}
+use Rattle.snap_steps.specs.Steps.Clones.{seat_of, root_loaded, writes_counted, copied, stamp_noted, stamp_loaded, TellsCause}
 use Rattle.snap_steps.specs.Steps.Fields.{is_last}
 use Rattle.snap_steps.specs.Steps.Told.{Sat}
 use Rattle.snap_steps.specs.declared.rule.About.{About}
+use Rattle.snap_steps.specs.declared.view.Balance.{Balance}
+use Rattle.snap_steps.specs.declared.view.Balance.TheVariants.{Settled, RowsOut, StampOut}
 use Rattle.snap_steps.specs.declared.view.Stage.{Stage}
 use Rattle.snap_steps.specs.declared.view.Stage.TheVariants.{Idle, Writing, Closing}
 use Rattle.snap_steps.specs.declared.view.View.{View}
@@ -55,6 +58,12 @@ within_each P empty u e r = subst (EachRow P) (sym e) r
 within_each P (node n a b) u (inl e) r = subst (EachRow P) (sym e) r
 within_each P (node n a b) u (inr (inl w)) r = within_each P a u w r.1
 within_each P (node n a b) u (inr (inr w)) r = within_each P b u w r.2
+
+-- the stamp of the row that is the cause of a clone's balance
+found_cause : (s : Table) (balance : Balance) (r found : ℕ) → s.stamp r ≡ found → HasCause s balance → TellsCause balance r found
+found_cause s Settled r found is h e = absurd (cc)
+found_cause s RowsOut r found is h e = absurd (cc)
+found_cause s (StampOut row) r found is h e = let same : row ≡ r = cc in omega (arith, h.last, ap s.stamp same, is)
 
 -- the words of a node's row
 module _ (m : Memory) (g : Beside) (rows : ℕ) (n : Node) (a b : Tree) where
@@ -100,7 +109,7 @@ module _ (about : About) (slots id : ℕ) (me : Sat) where
         v,
         keeps,
         tt,
-        seeing about s.words s.views k (word_at 0 Right) id v v at (k.known id v at) (k.reached id v at) (k.ways id v at) (k.present id v at) (k.notes id v at) (k.worn id v at) (k.lasting id v at) (begins_itself v.seen) seen.0 seen.1,
+        seeing about s.words s.views k (word_at 0 Right) id v v at (k.known id v at) (k.reached id v at) (k.ways id v at) (k.places id v at) (k.present id v at) (k.notes id v at) (k.worn id v at) (k.lasting id v at) (begins_itself v.seen) seen.0 seen.1,
         (refl, is ∙ still.1, omega (arith, is, laid, low)),
       )
 
@@ -114,7 +123,7 @@ module _ (about : About) (slots id : ℕ) (me : Sat) where
         v,
         keeps,
         tt,
-        seeing about s.words s.views k 3 id v v at (k.known id v at) (k.reached id v at) (k.ways id v at) (k.present id v at) (k.notes id v at) (k.worn id v at) (k.lasting id v at) (begins_itself v.seen) seen.0 seen.1,
+        seeing about s.words s.views k 3 id v v at (k.known id v at) (k.reached id v at) (k.ways id v at) (k.places id v at) (k.present id v at) (k.notes id v at) (k.worn id v at) (k.lasting id v at) (begins_itself v.seen) seen.0 seen.1,
         (refl, refl, omega (arith, is, k.counted.all, none_owe, ap length still.2), subst (Begins v.seen) still.2 seen.0),
       )
 
@@ -132,7 +141,7 @@ module _ (about : About) (slots id : ℕ) (me : Sat) where
         v,
         keeps,
         tt,
-        seeing about s.words s.views k (word_at r f) id v v at (k.known id v at) (k.reached id v at) (k.ways id v at) (k.present id v at) (k.notes id v at) (k.worn id v at) (k.lasting id v at) (begins_itself v.seen) seen.0 seen.1,
+        seeing about s.words s.views k (word_at r f) id v v at (k.known id v at) (k.reached id v at) (k.ways id v at) (k.places id v at) (k.present id v at) (k.notes id v at) (k.worn id v at) (k.lasting id v at) (begins_itself v.seen) seen.0 seen.1,
         λ r' f' same. let x = one_word r r' f f' same in (refl, subst (λ (y : ℕ). TellsWord v.rows t y f' found) x.0 (subst (λ (h : Field). TellsWord v.rows t r h found) x.1 tells)),
       )
     where
@@ -143,11 +152,11 @@ module _ (about : About) (slots id : ℕ) (me : Sat) where
   pub loads_stamp : (r : ℕ) → r ≤ about.rows → Allows (Rule about) slots id me (word_at r Stamp) (λ n. n) (stamp_loaded (step slots (word_at r Stamp) 0 0 none) me)
   loads_stamp r near s k wide at small =
       let v : View = me.0 in let found : ℕ = get_or s.words (word_at r Stamp) 0 in let is : found ≡ field Stamp (row k.m.rows r) = cell_is k.memory r Stamp near in
-      let w : View = stamp_noted v found in let seen = k.history.seen id v at in
+      let w : View = stamp_noted v r found in let seen = k.history.seen id v at in
       let worn : KnowsWorn (state_of k.m k.g) w = λ saw. ⊎_elim (k.worn id v at) (last_found about s.words s.views k r Stamp found (sym is)) (or_cases v.worn (is_last Stamp found) saw) in (
         w,
         keeps,
         tt,
-        seeing about s.words s.views k (word_at r Stamp) id v w at (k.known id v at) (k.reached id v at) (k.ways id v at) (k.present id v at) (k.notes id v at) worn (k.lasting id v at) (begins_itself v.seen) seen.0 seen.1,
-        refl,
+        seeing about s.words s.views k (word_at r Stamp) id v w at (k.known id v at) (k.reached id v at) (k.ways id v at) (k.places id v at) (k.present id v at) (k.notes id v at) worn (k.lasting id v at) (begins_itself v.seen) seen.0 seen.1,
+        λ r' same. let x = (one_word r r' Stamp Stamp same).0 in (ap (λ (y : ℕ). (stamp_noted v y found, me.1)) x, subst (λ (y : ℕ). TellsCause v.base.balance y found) x (found_cause (state_of k.m k.g) v.base.balance r found (sym is) (k.based id v at).0.cause)),
       )

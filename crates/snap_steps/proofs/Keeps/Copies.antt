@@ -1,5 +1,11 @@
 -- Linking a lazy copy keeps the rule, and so do loads of shared rows.
-use Rattle.std.proofs.Common.{◌≡◌, ◌≢◌, ◌⊎◌, inl, inr, ⊎_elim, ℕ, ◌<◌, ◌≤◌, nat_lt, List, ◌∷◌, length, set, get_or, false, sym, refl, ap, ◌∙◌, subst, arith}
+use Rattle.snap_rule.specs.Debt.{DebtOk}
+use Rattle.snap_rule.proofs.Debts.Trees.{copy_owes}
+use Rattle.snap_steps.specs.Rule.Debts.{debts_of}
+use Rattle.snap_steps.specs.Rule.Heights.{AreHeights}
+use Rattle.snap_steps.proofs.Parts.Debts.{owed_itself, debt_known}
+use Rattle.snap_steps.proofs.Parts.Heights.{leaves_apart, heights_same, heights_kept, link_height, copy_leaves}
+use Rattle.std.proofs.Common.{Option, Some, None, ◌≡◌, ◌≢◌, ◌⊎◌, inl, inr, ⊎_elim, ℕ, ◌<◌, ◌≤◌, nat_lt, List, ◌∷◌, length, set, get_or, sym, refl, ap, ◌∙◌, subst, arith}
 use Rattle.std.proofs.lemmas.Bool.{cond_both}
 use Rattle.std.proofs.lemmas.Bool.Decides.{nat_tests}
 use lib.ListN.{get_elem?}
@@ -15,8 +21,6 @@ use Rattle.snap_rule.specs.Kinds.Clones.{MayLinkCopy}
 use Rattle.snap_rule.specs.Rule.{IsLive, IsParent}
 use Rattle.snap_rule.specs.State.{State as Table, In, IsShared, Beside}
 use Rattle.snap_rule.specs.declared.change.Doing.TheVariants.{Nothing}
-use Rattle.snap_rule.specs.declared.reader.Point.TheVariants.{Standing}
-use Rattle.snap_rule.specs.declared.reader.Reading.TheVariants.{On}
 use Rattle.snap_stamp.specs.Layout.{word_at}
 use Rattle.snap_stamp.specs.declared.layout.Field.{Field}
 use Rattle.snap_stamp.specs.declared.layout.Field.TheVariants.{Lock, Left, Right, Key, Birth, Height, Value}
@@ -31,11 +35,11 @@ use Rattle.snap_steps.specs.Rule.Worn.{KnowsWorn}
 use Rattle.snap_steps.specs.Stages.{in_write}
 use Rattle.snap_steps.specs.States.{link_field, state_of}
 use Rattle.snap_steps.specs.Steps.Births.{learnt, lasting_loaded}
-use Rattle.snap_steps.specs.Steps.Copies.{IsOlder, IsAbove, HasWord, IsCopy, copied, copy_linked}
+use Rattle.snap_steps.specs.Steps.Copies.{IsOlder, HasWord, IsCopy, copied, copy_linked}
+use Rattle.snap_steps.specs.Steps.Tilts.{IsCopyPlace, IsHeldLink, IsWriting}
 use Rattle.snap_steps.specs.Steps.Fields.{led_to, is_last}
 use Rattle.snap_steps.specs.Steps.Told.{Sat}
 use Rattle.snap_steps.specs.declared.rule.About.{About}
-use Rattle.snap_steps.specs.declared.view.Stage.TheVariants.{Writing}
 use Rattle.snap_steps.specs.declared.view.View.{View}
 use Rattle.snap_steps.proofs.Cells.{cell_is, cell_set, changed, one_word, row_same, field_same, field_other}
 use Rattle.snap_steps.proofs.Classes.Entering.{some_write, born_live}
@@ -63,7 +67,7 @@ use Rattle.snap_stamp.specs.declared.side.Side.TheVariants as sides
 use mathlib.Core.Option as maybe
 
 -- a row that a pass knows to be of an earlier epoch is shared
-shared_is : (s : Table) (v : View) (r : ℕ) → AreLasting s v.lasting → ((e : ℕ) → 0 < times e v.present → e ≡ s.epoch) → ¬ In 0 s.linked → IsOlder v r → IsShared s r × In r s.linked
+pub shared_is : (s : Table) (v : View) (r : ℕ) → AreLasting s v.lasting → ((e : ℕ) → 0 < times e v.present → e ≡ s.epoch) → ¬ In 0 s.linked → IsOlder v r → IsShared s r × In r s.linked
 shared_is s v r lasting present no_zero h =
     let birth : IsLasting s (fact r Birth h.birth) = lasting_is s v.lasting r Birth h.birth lasting h.is_birth in
     let was : In r s.linked = times_in r s.linked birth.linked in
@@ -82,19 +86,21 @@ loads_shared about slots id me r f low no_lock older s k wide at small =
       keeps,
       tt,
       seeing about s.words s.views k (word_at r f) id v (learnt v r f x) at facts
-          (in_append k.g.linked v.reached (led_to v r f x) (k.reached id v at) (led_in k.m k.g v r f x k.table (k.reached id v at) (sym is))) (k.ways id v at) (k.present id v at)
+          (in_append k.g.linked v.reached (led_to v r f x) (k.reached id v at) (led_in k.m k.g v r f x k.table (k.reached id v at) (sym is))) (k.ways id v at) (k.places id v at) (k.present id v at)
           (k.notes id v at) worn (new, k.lasting id v at) (begins_itself v.seen) seen.0 seen.1,
       λ r' f' same. let t = one_word r r' f f' same in (λ i. (learnt v (t.0 i) (t.1 i) x, me.1)),
     )
 
-one_place : (key key' n n' w w' : ℕ) (d d' : Side) → On key (Standing n w d) ≡ On key' (Standing n' w' d') → (key ≡ key') × (n ≡ n') × (d ≡ d')
-one_place key key' n n' w w' d d' e = (cc, cc, cc)
+-- what both places of a copy have
+pub held_link : (v : View) (key : Option ℕ) (parent : ℕ) (d : Side) (child : ℕ) → IsCopyPlace v key parent d child → IsHeldLink v parent d child
+held_link v (Some key) parent d child h = record { held = h.1.held; child_is = h.1.child_is; live = h.1.live }
+held_link v None parent d child h = record { held = h.held; child_is = h.child_is; live = inr h.live }
 
 -- `link_copy`
-pub links_copy : (about : About) (slots id : ℕ) (me : Sat) (key parent : ℕ) (d : Side) (child copy : ℕ) → parent ≤ about.rows → me.0.stage ≡ Writing false false → IsAbove me.0 key parent d child → IsOlder me.0 child → IsCopy me.0 copy child → me.0.doing ≡ Nothing
-    → Allows (Rule about) slots id me (word_at parent (link_field d)) (λ _. copy) (λ _. copy_linked (step slots (word_at parent (link_field d)) copy 0 maybe.none) me copy)
-links_copy about slots id me key parent d child copy low writing above older filled whole s k wide at small =
-    let v : View = me.0 in let rows_wide = k.memory.wide in let near : parent < length k.m.rows = omega arith in let f : Field = link_field d in
+pub links_copy : (about : About) (slots id : ℕ) (me : Sat) (key : Option ℕ) (parent : ℕ) (d : Side) (child copy : ℕ) → parent ≤ about.rows → IsWriting me.0 → IsCopyPlace me.0 key parent d child → IsOlder me.0 child → IsCopy me.0 copy child → me.0.doing ≡ Nothing
+    → Allows (Rule about) slots id me (word_at parent (link_field d)) (λ _. copy) (λ _. copy_linked key (step slots (word_at parent (link_field d)) copy 0 maybe.none) me copy)
+links_copy about slots id me key parent d child copy low writing place older filled whole s k wide at small =
+    let v : View = me.0 in let above = held_link v key parent d child place in let rows_wide = k.memory.wide in let near : parent < length k.m.rows = omega arith in let f : Field = link_field d in
     let st : Table = state_of k.m k.g in let x : Row = with_field f copy (row k.m.rows parent) in let rows' : List Row = changed k.m.rows parent f copy in
     let w : View = copied v key parent f copy in
     let is_lock : f ≢ Lock = no_lock d in
@@ -111,7 +117,7 @@ links_copy about slots id me key parent d child copy low writing above older fil
     let ours : (h : Field) (y : ℕ) → IsKnown v.wrote copy h y → field h (row k.m.rows copy) ≡ y = λ h y. known_is k.m.rows v.own v.wrote copy h y wrote in
     let same : (h : Field) → HasWord v copy child h → field h (row k.m.rows copy) ≡ field h (row k.m.rows child) = λ h q. ours h q.word q.ours ∙ sym (lasting_is st v.lasting child h q.word lasting q.theirs).word ∙ word_is k.m k.g child h in
     let may : MayLinkCopy st parent d child copy = record {
-      writing = some_write s.views id v k.g.writers at k.writers (ap in_write writing);
+      writing = some_write s.views id v k.g.writers at k.writers (ap in_write writing.2);
       parent_live = parent_is st above.live live;
       shared = shared.0;
       child = child_link;
@@ -131,7 +137,7 @@ links_copy about slots id me key parent d child copy low writing above older fil
     let away : ℕ → Type 0 = λ (n : ℕ). (n ≢ parent) × (n ≢ copy) in
     let moves : Moves st s' away × DoingOk s' v.doing = (subst (λ (z : Table). Moves st z away) (sym path) (copy_evolves st parent d child copy may, copy_keeps st k.table parent d child copy may, λ n q. copy_apart st n parent d child copy may q.0 q.1), subst (DoingOk s') (sym whole) tt) in
     let is_times : 0 < parent → 0 < times parent k.g.linked = λ l. in_times parent k.g.linked (linked_parent (λ z. omega arith)) in
-    let in_it : in_write v.stage ≡ 1 = ap in_write writing in (
+    let in_it : in_write v.stage ≡ 1 = ap in_write writing.2 in (
       w,
       keeps,
       tt,
@@ -144,8 +150,14 @@ links_copy about slots id me key parent d child copy low writing above older fil
           (ap (field f) (row_same k.m.rows parent x near) ∙ field_same f copy (row k.m.rows parent), above.held, facts_left k.m.rows parent f copy v.holds v.knows near known))
           (in_times copy (copy ∷ k.g.linked) (inl refl), all_linked_grows k.g.linked (copy ∷ k.g.linked) (λ r h. inr h) v.reached (k.reached id v at))
           (apart_linked k id v w at parent copy x is_times filled.own refl refl refl)
-          (marks_stay s.views id v w k.m.rows rows' at k.marked (stamps_same k.m.rows parent x near (link_stamp d copy (row k.m.rows parent))) refl),
-      λ key' parent' stamp' d' word way. let q = one_place key key' parent parent' above.stamp stamp' d d' (sym above.place ∙ way) in (λ i. (copied v (q.0 i) (q.1 i) (link_field (q.2 i)) copy, me.1)),
+          (marks_stay s.views id v w k.m.rows rows' at k.marked (stamps_same k.m.rows parent x near (link_stamp d copy (row k.m.rows parent))) refl) (
+            (λ j u ne there n c. leaves_apart st s' n (moves.0.2 n ((λ q. omega (arith, c, others_apart s.views id v at k.m.rows parent k.locked above.held j u ne there, ap (λ (i : ℕ). times i u.holds) q)), (λ q. omega (arith, c, unlocked j u there, ap (λ (i : ℕ). times i u.holds) q))))
+                (heights_same k.m.rows parent x near (link_height d copy (row k.m.rows parent)))),
+            subst (λ (z : Table). AreHeights z v.holds v.heights) (sym path) (heights_kept st (clone_kinds.copy_linked st parent d child copy) v.holds v.heights (λ n c. copy_leaves st parent d child copy n k.table may) (k.heights id v at)),
+            debt_known st s' v k.table moves.0.0 (k.doing id v at) (λ n c. absurd (subst (λ z. Concerns z n) whole c)) (k.debts id v at),
+            λ room ok. owed_itself s.views id v at s' (subst (λ (z : Table). DebtOk z (debts_of s.views)) (sym path) (copy_owes st (debts_of s.views) parent d child copy k.table ok may)),
+          ),
+      λ parent' d' word. let t = one_word parent parent' (link_field d) (link_field d') word in (λ i. (copied v key (t.0 i) (t.1 i) copy, me.1)),
     )
   where
     is_live : (v : View) (n : ℕ) → n ≢ 0 → ((n ≡ 0) × (d ≡ sides.Right)) ⊎ ((0 < times n v.reached) × IsBorn v n) → (0 < times n v.reached) × IsBorn v n

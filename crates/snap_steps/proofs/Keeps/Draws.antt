@@ -1,4 +1,9 @@
 -- A try to draw keeps the rule.
+use Rattle.snap_steps.specs.Rule.Places.{KnowsPlace}
+use Rattle.snap_steps.specs.Rule.Debts.{KnowsDebt}
+use Rattle.snap_steps.specs.Rule.Heights.{AreHeights}
+use Rattle.snap_rule.proofs.Evolving.Silent.{same_evolves}
+use Rattle.snap_steps.proofs.Parts.Debts.{owed_after, owed_itself}
 use Rattle.std.proofs.Common.{◌≡◌, ℕ, ◌+◌, ◌<◌, eqb, [], ◌∷◌, ◌++◌, get_or, set, sym, refl, ap, subst, arith}
 use mathlib.Core.Logic.{dite}
 use mathlib.Core.Option.{Option}
@@ -74,10 +79,14 @@ draws about slots id me found said room passing s k wide at small =
         known = each_stays s.views id me.0 w at (KnowsRows k.m.rows) k.known (λ p. p);
         reached = each_stays s.views id me.0 w at (λ u. AllLinked k.g.linked u.reached) k.reached (λ p. p);
         ways = each_stays s.views id me.0 w at (IsOnWay (state_of k.m k.g)) k.ways (λ p. p);
+        places = each_stays s.views id me.0 w at (KnowsPlace (state_of k.m k.g)) k.places (λ p. p);
         worn = each_stays s.views id me.0 w at (KnowsWorn (state_of k.m k.g)) k.worn (λ p. p);
         lasting = each_stays s.views id me.0 w at (λ u. AreLasting (state_of k.m k.g) u.lasting) k.lasting (λ p. p);
         based = each_stays s.views id me.0 w at (KnowsBase (state_of k.m k.g)) k.based (λ p. p);
         tries = each_stays s.views id me.0 w at (KnowsTry (state_of k.m k.g)) k.tries (λ p. p);
+        heights = each_stays s.views id me.0 w at (λ u. AreHeights (state_of k.m k.g) u.holds u.heights) k.heights (λ p. p);
+        debts = each_stays s.views id me.0 w at (KnowsDebt (state_of k.m k.g)) k.debts (λ p. p);
+        owing = owed_after s.views id me.0 w at (state_of k.m k.g) (state_of k.m k.g) k.m.next (found + 1) about.rows (same_evolves (state_of k.m k.g)) (omega arith) (λ _ ok. owed_itself s.views id me.0 at (state_of k.m k.g) ok) k.owing;
         marked = marks_stay s.views id me.0 w k.m.rows k.m.rows at k.marked (λ n. refl) refl;
         cut = cut_stays s.views id me.0 w at k.m.epoch k.cut refl refl;
         acting = each_stays s.views id me.0 w at ActsAsPass k.acting (λ p. p);

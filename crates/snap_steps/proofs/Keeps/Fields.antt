@@ -1,4 +1,11 @@
 -- Loads of a row's words and stores in own rows keep the rule.
+use Rattle.snap_steps.proofs.Parts.Places.{places_evolve}
+use Rattle.snap_steps.specs.Rule.Places.{KnowsPlace}
+use Rattle.snap_rule.specs.State.{State as Table}
+use Rattle.snap_steps.specs.Rule.Debts.{KnowsDebt}
+use Rattle.snap_steps.specs.Rule.Heights.{AreHeights}
+use Rattle.snap_steps.proofs.Parts.Debts.{owed_silent, debts_known}
+use Rattle.snap_steps.proofs.Parts.Heights.{heights_evolve}
 use Rattle.std.proofs.Common.{List, subst, ◌≡◌, ℕ, ◌≤◌, nat_lt, ◌∷◌, get_or, sym, refl, ◌∙◌, arith, ◌≢◌, ◌<◌, length, ap, ⊎_elim}
 use Rattle.std.proofs.lemmas.Bool.{cond_both}
 use Rattle.std.proofs.lemmas.Bool.Decides.{nat_tests}
@@ -69,7 +76,7 @@ reads about slots id me r f low passing s k wide at small =
       keeps,
       tt,
       seeing about s.words s.views k (word_at r f) id v w at facts
-          (in_append k.g.linked v.reached (led_to v r f found) (k.reached id v at) led) (k.ways id v at) (k.present id v at)
+          (in_append k.g.linked v.reached (led_to v r f found) (k.reached id v at) led) (k.ways id v at) (k.places id v at) (k.present id v at)
           (k.notes id v at) worn (k.lasting id v at) (begins_itself v.seen) seen.0 seen.1,
       λ r' f' same. let t = one_word r r' f f' same in ((λ i. (read v (t.0 i) (t.1 i) found, me.1)), λ x there. is ∙ (λ i. field (t.1 i) (row k.m.rows (t.0 i))) ∙ known_is k.m.rows v.holds v.knows r' f' x known there, λ c there. let far = (k.apart.low c (in_times c k.g.linked (in_of k.g.linked (led_to v r f found) c led (subst (λ (l : List ℕ). 0 < times c l) (λ i. led_to v (sym t.0 i) (sym t.1 i) found) there)))).1 in omega (arith, far, room, rows_are)),
     )
@@ -84,7 +91,7 @@ stores_own about slots id me r new f low no_lock no_stamp mine s k wide at small
     let free : (row k.m.rows r).lock ≡ 0 = (k.apart.fresh r pos own.0).0 in let still : x.stamp ≡ (row k.m.rows r).stamp = field_other Stamp f new (row k.m.rows r) (λ e. no_stamp (sym e)) in
     let apart : (j : ℕ) (u : View) → get_elem? s.views j ≡ some u → times r u.holds ≡ 0 = λ j u there. omega (arith, term_le (λ y. times r y.holds) s.views j u there, k.locked.count r, ap is_taken free) in
     let may : MayStoreOwn (state_of k.m k.g) r = record { is_row = pos; fresh = λ is. omega (arith, in_times r k.g.linked is, own.0) } in
-    let moves = own_moves k.m k.g r f new near no_lock no_stamp may k.table in (
+    let all_moves = own_moves k.m k.g r f new near no_lock no_stamp may k.table in let moves = all_moves.0 in let s' : Table = state_of (record k.m { rows = changed k.m.rows r f new }) k.g in (
       w,
       keeps,
       tt,
@@ -110,10 +117,14 @@ stores_own about slots id me r new f low no_lock no_stamp mine s k wide at small
         present = each_stays s.views id v w at (KnowsEpoch k.m.epoch) k.present (λ p. p);
         reached = each_stays s.views id v w at (λ u. AllLinked k.g.linked u.reached) k.reached (λ p. p);
         ways = each_stays s.views id v w at (IsOnWay (state_of (record k.m { rows = changed k.m.rows r f new }) k.g)) (ways_evolve (state_of k.m k.g) (state_of (record k.m { rows = changed k.m.rows r f new }) k.g) s.views moves.0 k.history.seen k.ways) (λ p. p);
+        places = each_stays s.views id v w at (KnowsPlace (state_of (record k.m { rows = changed k.m.rows r f new }) k.g)) (places_evolve (state_of k.m k.g) (state_of (record k.m { rows = changed k.m.rows r f new }) k.g) s.views moves.0 k.places) (λ p. p);
         worn = each_stays s.views id v w at (KnowsWorn (state_of (record k.m { rows = changed k.m.rows r f new }) k.g)) (worns_evolve (state_of k.m k.g) (state_of (record k.m { rows = changed k.m.rows r f new }) k.g) s.views moves.0 k.worn) (λ p. p);
         lasting = each_stays s.views id v w at (λ u. AreLasting (state_of (record k.m { rows = changed k.m.rows r f new }) k.g) u.lasting) (lastings_evolve (state_of k.m k.g) (state_of (record k.m { rows = changed k.m.rows r f new }) k.g) s.views moves.0 k.lasting) (λ p. p);
         based = each_stays s.views id v w at (KnowsBase (state_of (record k.m { rows = changed k.m.rows r f new }) k.g)) (bases_evolve about s.words s.views k (state_of (record k.m { rows = changed k.m.rows r f new }) k.g) moves.0 (λ _. refl)) (λ p. p);
         tries = each_stays s.views id v w at (KnowsTry (state_of (record k.m { rows = changed k.m.rows r f new }) k.g)) (tries_evolve (state_of k.m k.g) (state_of (record k.m { rows = changed k.m.rows r f new }) k.g) s.views moves.0 k.tries) (λ p. p);
+        heights = each_stays s.views id v w at (λ u. AreHeights s' u.holds u.heights) (heights_evolve (state_of k.m k.g) s' s.views (λ j u there y held. ((moves.2 y (λ e. omega (arith, held, apart j u there, ap (λ (i : ℕ). times i u.holds) e))).live, all_moves.2 y)) k.heights) (λ p. p);
+        debts = each_stays s.views id v w at (KnowsDebt s') (debts_known (state_of k.m k.g) s' s.views k.table moves.0 k.doing (λ j u there y c. (moves.2 y (λ e. omega (arith, k.held j u there y c, apart j u there, ap (λ (i : ℕ). times i u.holds) e))).stamp) k.debts) (λ p. p);
+        owing = owed_silent s.views id v w at (state_of k.m k.g) s' k.m.next k.m.next about.rows moves.0 (omega arith) all_moves.1 refl k.owing;
         marked = marks_stay s.views id v w k.m.rows (changed k.m.rows r f new) at k.marked (stamps_same k.m.rows r x near still) refl;
         cut = cut_stays s.views id v w at k.m.epoch k.cut refl refl;
         acting = each_stays s.views id v w at ActsAsPass k.acting (λ p. p);

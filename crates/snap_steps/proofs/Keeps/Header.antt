@@ -1,4 +1,6 @@
 -- Loads of the header keep the rule.
+use Rattle.snap_steps.specs.States.{state_of}
+use Rattle.snap_steps.proofs.Parts.Debts.{owed_itself}
 use Rattle.std.proofs.Common.{◌≡◌, ℕ, get_or, refl, ap, ◌∙◌, arith, ◌/◌, ◌<◌, ⊎_elim, [], ◌∷◌, ◌++◌, set, sym, subst}
 use mathlib.Core.Logic.{dite}
 use mathlib.Core.Option.{none}
@@ -34,7 +36,7 @@ loads_next about slots id me passing s k wide at small = let is = next_is k.memo
   keeps,
   tt,
   noting about s.words s.views k 0 id me.0 (Next (get_or s.words 0 0)) at (omega arith),
-  (refl, refl, omega arith),
+  (refl, refl, omega arith, omega (arith, is, (k.notes id me.0 at).drawn_is)),
 )
 
 pub loads_gate : (about : About) (slots id : ℕ) (me : Sat) → Allows (Rule about) slots id me 1 (λ n. n) (gate_loaded (step slots 1 0 0 none) me)
@@ -55,10 +57,11 @@ loads_left about slots id me s k wide at small =
       w,
       keeps,
       tt,
-      turning about s.words s.views k id v at (set s.words 2 r) k.m (v.notes ++ Left r ∷ []) v.handed v.epochs (after_left v.stage r) v.uses v.present v.copies (loaded k.memory 2) refl refl (header_more k.m.next k.m.epoch v (Left r) (k.notes id v at) tt) (omega (arith, same.3)) (omega (arith, same.4)) refl (λ x. omega (arith, k.locked.writing id v at x, same.0)) ((k.present id v at).0, λ z. (k.present id v at).1 (omega (arith, same.0, z)))
+      turning about s.words s.views k id v at (set s.words 2 r) k.m (v.notes ++ Left r ∷ []) v.handed v.epochs (after_left v.stage r) v.uses v.present v.copies v.debt v.reads v.place (loaded k.memory 2) refl refl (header_more k.m.next k.m.epoch v (Left r) (k.notes id v at) tt) (omega (arith, same.3)) (omega (arith, same.4)) refl (λ x. omega (arith, k.locked.writing id v at x, same.0)) ((k.present id v at).0, λ z. (k.present id v at).1 (omega (arith, same.0, z)))
           (gated_moves s.views id v w at k.m.gate k.m.left k.m.gate k.m.left g (omega (arith, same.0, same.1)) (omega (arith, same.1, one)) (λ some. omega (arith, none_writes some, same.0))
           (each_stays s.views id v w at (λ u. IsAt k.m.gate u.stage) g.at (λ p. after_left_at k.m.gate v.stage r p)))
-          (used_moves s.views id v w at k.m.gate k.m.epoch k.m.gate k.m.epoch k.used refl refl refl (omega (arith, same.2)) (k.used.few id v at).0) (omega arith) (λ z. omega (arith, same.0)) (λ z. ap (λ st. after_left st r) (k.acting id v at z).0) (left_cut v.stage r),
+          (used_moves s.views id v w at k.m.gate k.m.epoch k.m.gate k.m.epoch k.used refl refl refl (omega (arith, same.2)) (k.used.few id v at).0) (omega arith) (λ z. omega (arith, same.0)) (λ z. ap (λ st. after_left st r) (k.acting id v at z).0) (left_cut v.stage r)
+          ((k.debts id v at).0, (λ z. (k.debts id v at).1 (omega (arith, same.0, z))), λ room ok. owed_itself s.views id v at (state_of k.m k.g) ok) (k.ways id v at, k.places id v at),
       (refl, refl),
     )
 
@@ -69,7 +72,7 @@ loads_done about slots id me passing alone s k wide at small =
       w,
       keeps,
       tt,
-      seeing about s.words s.views k 3 id v w at (k.known id v at) (k.reached id v at) tt (k.present id v at) (header_more k.m.next k.m.epoch v (Done r) (k.notes id v at) tt) (k.worn id v at) (k.lasting id v at) seen (begins_itself k.g.history) (subst (λ l. AllBegin l k.g.history) (sym alone) tt),
+      seeing about s.words s.views k 3 id v w at (k.known id v at) (k.reached id v at) tt (k.places id v at) (k.present id v at) (header_more k.m.next k.m.epoch v (Done r) (k.notes id v at) tt) (k.worn id v at) (k.lasting id v at) seen (begins_itself k.g.history) (subst (λ l. AllBegin l k.g.history) (sym alone) tt),
       (refl, k.g.history, record { goes_on = seen; legal = k.history.legal; own = sym own.0 }, omega (arith, k.counted.all), refl),
     )
 
@@ -79,6 +82,6 @@ loads_epoch about slots id me s k wide at small =
       w,
       keeps,
       tt,
-      seeing about s.words s.views k 4 id v w at (k.known id v at) (k.reached id v at) (k.ways id v at) (epoch_with v.stage k.m.epoch r v.present is (k.present id v at)) (header_more k.m.next k.m.epoch v (Epoch r) (k.notes id v at) (omega arith)) (k.worn id v at) (k.lasting id v at) (begins_itself v.seen) seen.0 seen.1,
+      seeing about s.words s.views k 4 id v w at (k.known id v at) (k.reached id v at) (k.ways id v at) (k.places id v at) (epoch_with v.stage k.m.epoch r v.present is (k.present id v at)) (header_more k.m.next k.m.epoch v (Epoch r) (k.notes id v at) (omega arith)) (k.worn id v at) (k.lasting id v at) (begins_itself v.seen) seen.0 seen.1,
       (refl, refl, λ e some. is ∙ sym (all_are k.m.epoch e v.present (k.present id v at).0 some)),
     )

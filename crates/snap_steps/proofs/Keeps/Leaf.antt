@@ -1,5 +1,19 @@
 -- Linking a leaf keeps the rule.
-use Rattle.std.proofs.Common.{◌≢◌, ◌≡◌, ℕ, refl, ◌⊎◌, inl, inr, List, subst, false, suc, ◌^◌, ◌<◌, ◌≤◌, [], ◌∷◌, ◌++◌, length, set, sym, ap, ◌∙◌, arith, None}
+use Rattle.snap_rule.specs.Debt.{DebtOk}
+use Rattle.snap_rule.specs.Debt.Changes.{DebtDoing}
+use Rattle.snap_rule.specs.declared.debt.Debt.{Debt}
+use Rattle.snap_rule.specs.declared.change.Doing.{Doing}
+use Rattle.snap_steps.specs.Rule.Debts.{debts_of}
+use Rattle.snap_steps.specs.Steps.Debts.{OwesNothing}
+use Rattle.snap_steps.specs.Roles.{is_live}
+use Rattle.snap_steps.proofs.Owing.{owes_none, held_free, listing_is}
+use Rattle.snap_steps.proofs.Knowing.{known_word}
+use Rattle.snap_steps.proofs.Parts.Heights.{leaves_apart, heights_same}
+use Rattle.snap_rule.proofs.Debts.Trees.{leaf_owes}
+use Rattle.snap_steps.specs.Facts.{word_in}
+use Rattle.snap_steps.proofs.Parts.Heights.{link_height}
+use Rattle.snap_rule.specs.declared.debt.Mark.{Mark}
+use Rattle.std.proofs.Common.{Some, ◌≢◌, ◌≡◌, ℕ, refl, ◌⊎◌, inl, inr, List, subst, false, suc, ◌^◌, ◌<◌, ◌≤◌, [], ◌∷◌, ◌++◌, length, set, sym, ap, ◌∙◌, arith, None}
 use lib.ListN.{get_elem?}
 use mathlib.Core.Logic.{dite}
 use mathlib.Core.Option.{some, some-injective}
@@ -46,6 +60,7 @@ use Rattle.snap_steps.proofs.Totals.{term_le}
 use Rattle.snap_steps.proofs.Histories.{legal_more}
 use Rattle.snap_steps.proofs.Cells.{changed, cell_set, row_same, field_same, field_other}
 use Rattle.snap_steps.proofs.States.{sets}
+use Rattle.snap_steps.proofs.Reached.{all_linked_grows}
 use Rattle.snap_steps.proofs.Tables.{Moves, none_changing, in_times, all_are}
 use Rattle.snap_steps.proofs.EachView.{none_total, each_others}
 use Rattle.snap_steps.proofs.Parts.Locks.{others_apart, locks_stay}
@@ -92,10 +107,13 @@ pub standing_at : (s : Table) (seen : List Entry) (key n v : ℕ) (d : Side) (r 
 standing_at s seen key n v d r h (inl e) = subst (ReadingOk s seen) e h
 standing_at s seen key n v d r h (inr e) = let t : PointOk s seen key (NoLink n v d) = subst (ReadingOk s seen) e h in t.0
 
+abbrev debt_with : ℕ → List Mark → Debt
+debt_with a l = record { to_do = Some a; list = l; turning = None }
+
 -- `link_leaf`
-pub links_leaf : (about : About) (slots id : ℕ) (me : Sat) (r key value parent : ℕ) (f : Field) → parent ≤ about.rows → key < 2 ^ 64 → me.0.role ≡ Passing → me.0.stage ≡ Writing false false → IsLeaf me.0 r key value → IsPlace me.0 key parent f → me.0.doing ≡ Nothing
+pub links_leaf : (about : About) (slots id : ℕ) (me : Sat) (r key value parent : ℕ) (f : Field) → parent ≤ about.rows → key < 2 ^ 64 → me.0.role ≡ Passing → me.0.stage ≡ Writing false false → IsLeaf me.0 r key value → IsPlace me.0 key parent f → me.0.doing ≡ Nothing → OwesNothing me.0
     → Allows (Rule about) slots id me (word_at parent f) (λ _. r) (λ _. leaf_hung key value parent f (step slots (word_at parent f) r 0 maybe.none) me r)
-links_leaf about slots id me r key value parent f low small_key passing writing leaf place whole s k wide at small =
+links_leaf about slots id me r key value parent f low small_key passing writing leaf place whole owes s k wide at small =
     let v : View = me.0 in let rows_wide = k.memory.wide in let near : parent < length k.m.rows = omega arith in
     let d : Side = place.side in let st : Table = state_of k.m k.g in
     let x : Row = with_field f r (row k.m.rows parent) in let rows' : List Row = changed k.m.rows parent f r in
@@ -151,12 +169,19 @@ links_leaf about slots id me r key value parent f low small_key passing writing 
       w,
       keeps,
       tt,
-      entering about s.words s.views k id v at (set s.words (word_at parent f) r) rows' e b (removed r v.own) (forgotten_row v.wrote r) (fact parent f r ∷ forgotten v.knows parent f) away (cell_set k.memory parent f low r) passing writing refl (sym absent) moves (λ n y. refl) clear
+      entering about s.words s.views k id v at (set s.words (word_at parent f) r) rows' e b (r ∷ v.reached) (removed r v.own) (forgotten_row v.wrote r) (fact parent f r ∷ forgotten v.knows parent f) w.debt away (in_times r (r ∷ k.g.linked) (inl refl), all_linked_grows k.g.linked (r ∷ k.g.linked) (λ n i. inr i) v.reached (k.reached id v at)) (cell_set k.memory parent f low r) passing writing refl (sym absent) moves (λ n y. refl) clear
           (locks_stay s.views id v at k.m.rows parent x w k.locked (field_other Lock f r (row k.m.rows parent) (λ z. is_lock (sym z))) near refl refl (sym (ap in_write writing)))
           (each_others s.views id v at w (λ j u ne there. facts_elsewhere k.m.rows parent x u.holds u.holds u.knows (k.known j u there) (others_apart s.views id v at k.m.rows parent k.locked place.held j u ne there) (λ y. omega arith))
           (ap (field f) (row_same k.m.rows parent x near) ∙ field_same f r (row k.m.rows parent), place.held, facts_left k.m.rows parent f r v.holds v.knows near known))
           (apart_linked k id v w at parent r x is_times leaf.own refl refl refl)
-          (stamps_same k.m.rows parent x near (ap (λ (y : Field). (with_field y r (row k.m.rows parent)).stamp) place.by_side ∙ link_stamp d r (row k.m.rows parent))),
+          (stamps_same k.m.rows parent x near (ap (λ (y : Field). (with_field y r (row k.m.rows parent)).stamp) place.by_side ∙ link_stamp d r (row k.m.rows parent))) (
+            (λ j u ne there n c. leaves_apart st s' n (moves.2 n ((λ q. omega (arith, c, others_apart s.views id v at k.m.rows parent k.locked place.held j u ne there, ap (λ (i : ℕ). times i u.holds) q)), (λ q. omega (arith, c, unlocked j u there, ap (λ (i : ℕ). times i u.holds) q))))
+                (heights_same k.m.rows parent x near (ap (λ (y : Field). (with_field y r (row k.m.rows parent)).height) place.by_side ∙ link_height d r (row k.m.rows parent)))),
+            subst (λ (g : Doing). DebtDoing s' g w.debt) (sym whole) refl,
+            λ room ok. subst (λ (z : Table). DebtOk z (updates.changed (debts_of s.views) id w.debt)) (sym path)
+                (subst (λ (u : Debt). DebtOk (entry_kinds.leaf_linked st parent d r e) (updates.changed (debts_of s.views) id u)) (ap (debt_with key) (listing_is st parent (word_in v.knows parent Stamp) [] (known_word k.m.rows v.holds v.knows parent Stamp place.stamp known place.still)))
+                (leaf_owes st (debts_of s.views) id parent d r e k.table ok may (held_free k id v at parent place.held) (owes_none k id v at (ap is_live passing) owes room))),
+          ),
       (k.g.history, record { goes_on = seen.0; legal = legal_more k.g.history e k.history.legal (sym absent); own = sym mine.0 }, refl),
     )
   where

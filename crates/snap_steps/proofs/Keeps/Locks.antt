@@ -1,4 +1,7 @@
 -- Locking and freeing keep the rule.
+use Rattle.snap_steps.specs.States.{state_of}
+use Rattle.snap_steps.proofs.Parts.Heights.{heights_more, heights_dropped}
+use Rattle.snap_steps.specs.Facts.{heights_forgotten}
 use Rattle.std.proofs.Common.{◌⊎◌, ⊎_elim, ◌≡◌, ◌≢◌, ℕ, ◌+◌, ◌<◌, ◌≤◌, Bool, eqb, ◌∷◌, length, get_or, sym, ap, ◌∙◌, arith, subst}
 use lib.ListN.{get_elem?}
 use mathlib.Core.Logic.{dite}
@@ -50,7 +53,7 @@ locks about slots id me r new said made counted low up writing free comes s k wi
       w,
       keeps,
       tt,
-      locking about s.words s.views k id v at r new low (r ∷ v.holds) v.knows (ap in_write writing)
+      locking about s.words s.views k id v at r new low (r ∷ v.holds) v.knows v.heights (ap in_write writing)
           record {
             count = λ y. dite (ℕ_discrete y r)
                 (λ e. let here : (row (changed k.m.rows r Lock new) y).lock ≡ new = ap (λ (z : ℕ). (row (changed k.m.rows r Lock new) z).lock) e ∙ ap (λ (z : Row). z.lock) (row_same k.m.rows r x near) in
@@ -67,6 +70,7 @@ locks about slots id me r new said made counted low up writing free comes s k wi
           (each_others s.views id v at w (λ j u ne there. facts_elsewhere k.m.rows r x u.holds u.holds u.knows (k.known j u there) (apart j u there) (λ y. omega arith))
           (facts_elsewhere k.m.rows r x v.holds (r ∷ v.holds) v.knows (k.known id v at) free (λ y. omega arith)))
           (λ pos. ⊎_elim (λ (z : r ≡ 0). absurd (omega arith)) (λ (l : 0 < times r v.reached). in_times r k.g.linked (in_of k.g.linked v.reached r (k.reached id v at) l)) comes)
+          (heights_more (state_of k.m k.g) r v.holds v.heights (k.heights id v at))
           (λ y c. omega (arith, k.held id v at y c)),
       λ r' same. let t = one_word r r' Lock Lock same in ((λ _. ap (λ (z : ℕ). (locked v z, me.1)) t.0), (λ miss. absurd (miss hit))),
     ))
@@ -74,7 +78,7 @@ locks about slots id me r new said made counted low up writing free comes s k wi
       missed v r found,
       keeps,
       tt,
-      seeing about s.words s.views k (word_at r Lock) id v (missed v r found) at (k.known id v at) (k.reached id v at) (k.ways id v at) (k.present id v at) (k.notes id v at) (k.worn id v at) (k.lasting id v at) (begins_itself v.seen) seen.0 seen.1,
+      seeing about s.words s.views k (word_at r Lock) id v (missed v r found) at (k.known id v at) (k.reached id v at) (k.ways id v at) (k.places id v at) (k.present id v at) (k.notes id v at) (k.worn id v at) (k.lasting id v at) (begins_itself v.seen) seen.0 seen.1,
       λ r' same. let t = one_word r r' Lock Lock same in ((λ hit. absurd (miss hit)), λ _. ap (λ (z : ℕ). (missed v z found, me.1)) t.0),
     ))
 
@@ -89,7 +93,7 @@ frees about slots id me r low held whole s k wide at small =
       w,
       keeps,
       tt,
-      locking about s.words s.views k id v at r 0 low (removed r v.holds) (forgotten_row v.knows r) in_it
+      locking about s.words s.views k id v at r 0 low (removed r v.holds) (forgotten_row v.knows r) (heights_forgotten v.heights r) in_it
           record {
             count = λ y. dite (ℕ_discrete y r)
                 (λ e. let here : (row (changed k.m.rows r Lock 0) y).lock ≡ 0 = ap (λ (z : ℕ). (row (changed k.m.rows r Lock 0) z).lock) e ∙ ap (λ (z : Row). z.lock) (row_same k.m.rows r x near) in
@@ -112,6 +116,7 @@ frees about slots id me r low held whole s k wide at small =
           }
           (each_others s.views id v at w (λ j u ne there. facts_elsewhere k.m.rows r x u.holds u.holds u.knows (k.known j u there) (apart j u ne there) (λ y. omega arith)) (facts_freed k.m.rows r x v.holds v.knows (k.known id v at)))
           (λ pos. dite (ℕ_discrete (times r k.g.linked) 0) (λ z. absurd (omega (arith, (k.apart.fresh r pos z).0, k.locked.owner id v at r held))) (λ nz. omega arith))
+          (heights_dropped (state_of k.m k.g) r v.holds v.heights (k.heights id v at))
           (λ y c. absurd (subst (λ x. Concerns x y) whole c)),
       λ r' same. let t = one_word r r' Lock Lock same in ap (λ (z : ℕ). (unlocked v z, me.1)) t.0,
     )

@@ -74,6 +74,6 @@ makes_sure about slots id me passing shorter s k wide at small =
       w,
       keeps,
       tt,
-      seeing about s.words s.views k 0 id v w at (k.known id v at) (k.reached id v at) (k.ways id v at) (k.present id v at) (k.notes id v at) (k.worn id v at) (k.lasting id v at) (begins_itself v.seen) seen.0 tt,
+      seeing about s.words s.views k 0 id v w at (k.known id v at) (k.reached id v at) (k.ways id v at) (k.places id v at) (k.present id v at) (k.notes id v at) (k.worn id v at) (k.lasting id v at) (begins_itself v.seen) seen.0 tt,
       (refl, all_begin k.g.history v.seen v.joined seen.0 seen.1 shorter, legal_begin v.seen k.g.history seen.0 k.history.legal, own.1 ∙ sym own.0),
     )

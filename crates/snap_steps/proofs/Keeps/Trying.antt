@@ -1,4 +1,5 @@
 -- The loads of a call that never waits keep the rule.
+use Rattle.snap_steps.proofs.Parts.Debts.{owed_itself}
 use Rattle.std.proofs.Common.{◌≡◌, ◌≢◌, ◌∙◌, ℕ, ◌+◌, ◌/◌, ◌%◌, ◌^◌, ◌<◌, ◌≤◌, ◌⊎◌, cond, nat_lt, eqb, Bool, true, false, inl, inr, List, [], ◌∷◌, get_or, refl, sym, ap, subst, arith}
 use Rattle.std.proofs.lemmas.Bool.Decides.{nat_tests}
 use Rattle.std.specs.List.{AllByRecursion as Every}
@@ -35,6 +36,7 @@ use Rattle.snap_steps.specs.declared.view.View.{View}
 use Rattle.snap_steps.specs.declared.view.WordNote.TheVariants as notes
 use Rattle.snap_steps.proofs.Cells.{cell_is}
 use Rattle.snap_steps.proofs.Classes.Seeing.{trying}
+use Rattle.snap_steps.proofs.Parts.Places.{place_goes}
 use Rattle.snap_steps.proofs.Classes.Turning.{Rule}
 use Rattle.snap_steps.proofs.Histories.{legal_begin, of_between}
 use Rattle.snap_steps.proofs.Keeps.Way.{word_of, steps_on, comes_in, bounds, lasts, answers}
@@ -59,7 +61,7 @@ begins about slots id me s k wide at small =
       w,
       keeps,
       tt,
-      trying about s.words s.views k 2 id v w at (k.known id v at) (k.reached id v at) (k.ways id v at) (k.present id v at) (header_more k.m.next k.m.epoch v (notes.Left r) (k.notes id v at) tt) (k.worn id v at) (k.lasting id v at) known (begins_itself v.seen) seen.0 seen.1,
+      trying about s.words s.views k 2 id v w at (k.known id v at) (k.reached id v at) (k.ways id v at) (k.places id v at) (k.present id v at) (header_more k.m.next k.m.epoch v (notes.Left r) (k.notes id v at) tt) (k.worn id v at) (k.lasting id v at) known (k.heights id v at) (k.debts id v at) (λ _ ok. owed_itself s.views id v at (state_of k.m k.g) ok) (begins_itself v.seen) seen.0 seen.1,
       (refl, child, refl),
     )
 
@@ -174,7 +176,7 @@ module _ (m : Memory) (g : Beside) (ok : TableOk (state_of m g)) (seen : List En
   ends (Matched c') r f x h at along is = tt
 
 -- a note of trouble
-noted_so : (next epoch : ℕ) (v : View) (met : Bool) → KnowsHeader next epoch v → IsTrueOfHeader next epoch (trouble_noted met v.notes) v.handed v.epochs
+noted_so : (next epoch : ℕ) (v : View) (met : Bool) → KnowsHeader next epoch v → IsTrueOfHeader next epoch (trouble_noted met v.notes) v.handed v.epochs v.base.drawn
 noted_so next epoch v true h = header_more next epoch v notes.Trouble h tt
 noted_so next epoch v false h = h
 
@@ -195,7 +197,7 @@ tries_next about slots id me r f key point ended low high near passing call next
       w,
       keeps,
       tt,
-      trying about s.words s.views k (word_at r f) id v w at (k.known id v at) reached after (k.present id v at) (noted_so k.m.next k.m.epoch v (meets_trouble v.reads v.tries found) (k.notes id v at)) (k.worn id v at) (k.lasting id v at) tries (begins_itself v.seen) seen.0 seen.1,
+      trying about s.words s.views k (word_at r f) id v w at (k.known id v at) reached after (place_goes st v.seen v.reads v.place (k.ways id v at) (k.places id v at)) (k.present id v at) (noted_so k.m.next k.m.epoch v (meets_trouble v.reads v.tries found) (k.notes id v at)) (k.worn id v at) (k.lasting id v at) tries (k.heights id v at) (k.debts id v at) (λ _ ok. owed_itself s.views id v at (state_of k.m k.g) ok) (begins_itself v.seen) seen.0 seen.1,
       (t.0, refl, subst (λ y. BoundAt v.rows y found) (sym call.way) (bounds k.m k.g k.table v.rows v.seen key point r f found (λ y is_there. let l = k.apart.low y (in_times y k.g.linked is_there) in let a = (k.about_known id v at (ap is_live passing)).0 in let top = k.memory.room in omega (arith, l.1)) way next (sym is))),
     )
 
@@ -214,7 +216,7 @@ tries_last about slots id me r f key point ended low high near passing alone cal
       w,
       keeps,
       tt,
-      trying about s.words s.views k (word_at r f) id v w at (k.known id v at) (k.reached id v at) after (k.present id v at) (noted_so k.m.next k.m.epoch v (meets_trouble v.reads v.tries found) (k.notes id v at)) (k.worn id v at) (k.lasting id v at) tries t.from t.to seen.1,
+      trying about s.words s.views k (word_at r f) id v w at (k.known id v at) (k.reached id v at) after (k.places id v at) (k.present id v at) (noted_so k.m.next k.m.epoch v (meets_trouble v.reads v.tries found) (k.notes id v at)) (k.worn id v at) (k.lasting id v at) tries (k.heights id v at) (k.debts id v at) (λ _ ok. owed_itself s.views id v at (state_of k.m k.g) ok) t.from t.to seen.1,
       (
         h,
         record { goes_on = t.from; legal = legal_begin h k.g.history t.to k.history.legal; own = of_between v.seen h k.g.history v.who t.from t.to own.1 ∙ sym own.0 },
@@ -230,6 +232,6 @@ finds_busy about slots id me s k wide at small =
       w,
       keeps,
       tt,
-      trying about s.words s.views k 1 id v w at (k.known id v at) (k.reached id v at) tt (k.present id v at) (header_more k.m.next k.m.epoch v (notes.Gate r) (k.notes id v at) tt) (k.worn id v at) (k.lasting id v at) tt (begins_itself v.seen) seen.0 seen.1,
+      trying about s.words s.views k 1 id v w at (k.known id v at) (k.reached id v at) tt (k.places id v at) (k.present id v at) (header_more k.m.next k.m.epoch v (notes.Gate r) (k.notes id v at) tt) (k.worn id v at) (k.lasting id v at) tt (k.heights id v at) (k.debts id v at) (λ _ ok. owed_itself s.views id v at (state_of k.m k.g) ok) (begins_itself v.seen) seen.0 seen.1,
       (refl, refl, λ ended met. let late : ended < k.m.gate / 2 = subst (TryingOk st) met (k.tries id v at) in omega (arith, is, late)),
     )

@@ -25,7 +25,7 @@ use Rattle.snap_stamp.specs.declared.side.Side.{Side}
 use Rattle.snap_steps.specs.Counting.{Among}
 use Rattle.snap_steps.specs.States.{state_of, link_field}
 use Rattle.snap_steps.specs.Steps.Header.{noted}
-use Rattle.snap_steps.specs.Steps.Way.{set_out_for, goes_on, led_by, comes_to, way_begun, next_point, IsNext, BoundAt, last_point, read_on, next_read, Answers, IsLast, settled_at, ends_at, HasAnswer, answer_read}
+use Rattle.snap_steps.specs.Steps.Way.{set_out_for, begun_again, way_begun_again, goes_on, led_by, comes_to, way_begun, next_point, IsNext, BoundAt, last_point, read_on, next_read, Answers, IsLast, settled_at, ends_at, HasAnswer, answer_read}
 use Rattle.snap_steps.specs.Roles.{is_counted, is_live}
 use Rattle.snap_steps.specs.Rule.History.{AllBegin}
 use Rattle.snap_steps.specs.declared.view.View.{View}
@@ -38,6 +38,7 @@ use Rattle.snap_steps.proofs.Memories.{done_is}
 use Rattle.snap_steps.proofs.Classes.Turning.{Rule}
 use Rattle.snap_steps.specs.Steps.Told.{Sat}
 use Rattle.snap_steps.proofs.Classes.Seeing.{seeing}
+use Rattle.snap_steps.proofs.Parts.Places.{place_goes}
 use Rattle.snap_steps.specs.Memory.{Memory, field, row}
 use Rattle.snap_steps.specs.Rule.Ways.{AllLinked, IsOnWay}
 use Rattle.snap_steps.proofs.Reached.{in_append}
@@ -56,8 +57,20 @@ sets_out about slots id me key passing alone s k wide at small =
       w,
       keeps,
       tt,
-      seeing about s.words s.views k 3 id v w at (k.known id v at) (k.reached id v at) start.at_point (k.present id v at) (header_more k.m.next k.m.epoch v (Done r) (k.notes id v at) tt) (k.worn id v at) (k.lasting id v at) seen (begins_itself k.g.history) (subst (λ l. AllBegin l k.g.history) (sym alone) tt),
+      seeing about s.words s.views k 3 id v w at (k.known id v at) (k.reached id v at) start.at_point tt (k.present id v at) (header_more k.m.next k.m.epoch v (Done r) (k.notes id v at) tt) (k.worn id v at) (k.lasting id v at) seen (begins_itself k.g.history) (subst (λ l. AllBegin l k.g.history) (sym alone) tt),
       (refl, k.g.history, record { goes_on = seen; legal = k.history.legal; own = sym own.0 }, omega (arith, k.counted.all), refl),
+    )
+
+-- `set_out_again`: a load of any word, by which a way begins with no more seen
+pub sets_out_again : (about : About) (slots id : ℕ) (me : Sat) (key i : ℕ) → Allows (Rule about) slots id me i (λ n. n) (way_begun_again key (step slots i 0 0 maybe.none) me)
+sets_out_again about slots id me key i s k wide at small =
+    let v : View = me.0 in let w : View = begun_again v key in let seen = k.history.seen id v at in
+    let start = way_starts (state_of k.m k.g) v.seen key seen.0 in (
+      w,
+      keeps,
+      tt,
+      seeing about s.words s.views k i id v w at (k.known id v at) (k.reached id v at) start.at_point tt (k.present id v at) (k.notes id v at) (k.worn id v at) (k.lasting id v at) (begins_itself v.seen) seen.0 seen.1,
+      refl,
     )
 
 -- the word that a reader at this point loads
@@ -163,7 +176,7 @@ reads_on about slots id me r f key point low passing stands next s k wide at sma
     let after : IsOnWay (state_of k.m k.g) w = subst (λ y. ReadingOk (state_of k.m k.g) v.seen (goes_on y found)) (sym stands) (steps_on k.m k.g k.table v.seen key seen.0 point r f found way next (sym is)) in
     let come : AllLinked k.g.linked (comes_to v.reads found) = subst (λ y. AllLinked k.g.linked (comes_to y found)) (sym stands) (comes_in k.m k.g k.table v.seen key point r f found way next (sym is)) in
     let reached : AllLinked k.g.linked w.reached = in_append k.g.linked v.reached (comes_to v.reads found) (k.reached id v at) come in
-    (w, keeps, tt, seeing about s.words s.views k (word_at r f) id v w at (k.known id v at) reached after (k.present id v at) (k.notes id v at) (k.worn id v at) (k.lasting id v at) (begins_itself v.seen) seen.0 seen.1, (refl, subst (λ y. BoundAt v.rows y found) (sym stands) (bounds k.m k.g k.table v.rows v.seen key point r f found (λ y is_there. let l = k.apart.low y (in_times y k.g.linked is_there) in let a = (k.about_known id v at (ap is_live passing)).0 in let top = k.memory.room in omega (arith, l.1)) way next (sym is))))
+    (w, keeps, tt, seeing about s.words s.views k (word_at r f) id v w at (k.known id v at) reached after (place_goes (state_of k.m k.g) v.seen v.reads v.place (k.ways id v at) (k.places id v at)) (k.present id v at) (k.notes id v at) (k.worn id v at) (k.lasting id v at) (begins_itself v.seen) seen.0 seen.1, (refl, subst (λ y. BoundAt v.rows y found) (sym stands) (bounds k.m k.g k.table v.rows v.seen key point r f found (λ y is_there. let l = k.apart.low y (in_times y k.g.linked is_there) in let a = (k.about_known id v at (ap is_live passing)).0 in let top = k.memory.room in omega (arith, l.1)) way next (sym is))))
 
 -- what the reader's last word tells: a history between what the pass has seen and the whole
 pub record Answered (v log : List Entry) (k : ℕ) (t : Point) (x : ℕ) : Type 0 where
@@ -197,7 +210,7 @@ reads_last about slots id me r f key point low passing alone stands last s k wid
       settled_at v h found,
       keeps,
       tt,
-      seeing about s.words s.views k (word_at r f) id v (settled_at v h found) at (k.known id v at) (k.reached id v at) (subst (λ y. ReadingOk (state_of k.m k.g) h (ends_at y found)) (sym stands) (lasts (state_of k.m k.g) h key t.to point found)) (k.present id v at) (k.notes id v at) (k.worn id v at) (k.lasting id v at) t.from t.to seen.1,
+      seeing about s.words s.views k (word_at r f) id v (settled_at v h found) at (k.known id v at) (k.reached id v at) (subst (λ y. ReadingOk (state_of k.m k.g) h (ends_at y found)) (sym stands) (lasts (state_of k.m k.g) h key t.to point found)) (k.places id v at) (k.present id v at) (k.notes id v at) (k.worn id v at) (k.lasting id v at) t.from t.to seen.1,
       (
         h,
         record { goes_on = t.from; legal = legal_begin h k.g.history t.to k.history.legal; own = of_between v.seen h k.g.history v.who t.from t.to own.1 ∙ sym own.0 },

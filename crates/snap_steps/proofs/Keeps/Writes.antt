@@ -1,5 +1,28 @@
 -- Storing a value, confirming an absent key and counting an entry keep the rule.
-use Rattle.std.proofs.Common.{◌≡◌, ℕ, ◌+◌, ◌<◌, ◌≤◌, false, List, [], ◌∷◌, ◌++◌, length, get_or, set, sym, refl, ap, ◌∙◌, subst, arith, None, ◌%◌, ◌^◌, true}
+use lib.ListN.{get_elem?}
+use Rattle.snap_stamp.specs.declared.layout.Field.TheVariants.{Stamp}
+use Rattle.snap_steps.specs.Rule.{Kept}
+use Rattle.snap_rule.specs.Debt.{DebtOk}
+use Rattle.snap_rule.specs.Room.{HasRoom}
+use Rattle.snap_rule.specs.declared.debt.Mark.{Mark}
+use Rattle.snap_steps.proofs.Parts.Heights.{LeavesHeights}
+use Rattle.snap_rule.specs.Debt.Changes.{DebtDoing}
+use Rattle.snap_rule.specs.declared.debt.Debt.{Debt}
+use Rattle.snap_rule.specs.declared.change.Doing.{Doing}
+use Rattle.snap_rule.specs.declared.change.Doing.TheVariants.{Nothing}
+use Rattle.snap_rule.specs.Updates as updates
+use Rattle.snap_steps.specs.Rule.Debts.{debts_of}
+use Rattle.snap_steps.specs.Steps.Debts.{OwesNothing}
+use Rattle.snap_steps.specs.Roles.{is_live}
+use Rattle.snap_steps.proofs.Owing.{owes_none, held_free, listing_is}
+use Rattle.snap_steps.proofs.Knowing.{known_word}
+use Rattle.snap_steps.proofs.Parts.Debts.{debts_at, owed_itself, debt_known}
+use Rattle.snap_steps.proofs.Parts.Heights.{leaves_apart, heights_same}
+use Rattle.snap_rule.proofs.Debts.Kinds.{store_owes}
+use Rattle.snap_rule.proofs.Debts.Silent.{absent_silent, silent_owes}
+use Rattle.snap_rule.specs.Debt.Kinds.{stored_debt}
+use Rattle.snap_steps.specs.Steps.Writes.{value_debt}
+use Rattle.std.proofs.Common.{Some, suc, zero, ◌≢◌, ◌≡◌, ℕ, ◌+◌, ◌<◌, ◌≤◌, false, List, [], ◌∷◌, ◌++◌, length, get_or, set, sym, refl, ap, ◌∙◌, subst, arith, None, ◌%◌, ◌^◌, true}
 use mathlib.Core.Option.{some}
 use Rattle.atomic_table.specs.Table.{step, keeps, Allows}
 use Rattle.snap_model.specs.History.{told, call_key, call_value}
@@ -49,10 +72,25 @@ use mathlib.Core.Option as maybe
 use Rattle.snap_rule.specs.Kinds.Entries as entry_kinds
 use Rattle.snap_rule.specs.TreeChanges as tree_changes
 
+abbrev debt_with : ℕ → List Mark → Debt
+debt_with a l = record { to_do = Some a; list = l; turning = None }
+
+-- an entry that writes no word leaves debts and heights
+pub absent_owed : {about : About} {words : List ℕ} {views : List View} (k : Kept about words views) (id : ℕ) (v : View) (at : get_elem? views id ≡ some v) (e : Entry) → Moves (state_of k.m k.g) (entry_kinds.absent_confirmed (state_of k.m k.g) e) Anywhere
+    → (let s' : Table = entry_kinds.absent_confirmed (state_of k.m k.g) e in
+    ((j : ℕ) (u : View) → j ≢ id → get_elem? views j ≡ some u → (n : ℕ) → 0 < times n u.holds → LeavesHeights (state_of k.m k.g) s' n)
+    × DebtDoing s' v.doing v.debt × (HasRoom (state_of k.m k.g) k.m.next about.rows → DebtOk (state_of k.m k.g) (debts_of views) → DebtOk s' (updates.changed (debts_of views) id v.debt)))
+absent_owed {views = views} k id v at e moves =
+    let st : Table = state_of k.m k.g in let s' : Table = entry_kinds.absent_confirmed st e in (
+      (λ j u ne there n c. leaves_apart st s' n (moves.2 n tt) (λ m. refl)),
+      (debt_known st s' v k.table moves.0 (k.doing id v at) (λ n c. refl) (k.debts id v at)).0,
+      λ room ok. owed_itself views id v at s' (silent_owes st s' (debts_of views) (absent_silent st e) ok),
+    )
+
 -- `store_value`
-pub stores : (about : About) (slots id : ℕ) (me : Sat) (r key new : ℕ) → r ≤ about.rows → me.0.role ≡ Passing → me.0.stage ≡ Writing false false → 0 < times r me.0.holds → 0 < times r me.0.reached → IsKnown me.0.knows r Key key → IsBorn me.0 r
+pub stores : (about : About) (slots id : ℕ) (me : Sat) (r key new : ℕ) → r ≤ about.rows → me.0.role ≡ Passing → me.0.stage ≡ Writing false false → 0 < times r me.0.holds → 0 < times r me.0.reached → IsKnown me.0.knows r Key key → IsBorn me.0 r → me.0.doing ≡ Nothing → OwesNothing me.0
     → Allows (Rule about) slots id me (word_at r Value) (λ _. new) (value_stored (step slots (word_at r Value) new 0 maybe.none) me)
-stores about slots id me r key new low passing writing held reached key_known born s k wide at small =
+stores about slots id me r key new low passing writing held reached key_known born whole owes s k wide at small =
     let v : View = me.0 in let found : ℕ = get_or s.words (word_at r Value) 0 in let is : found ≡ (row k.m.rows r).value = cell_is k.memory r Value low in let rows_wide = k.memory.wide in
     let near : r < length k.m.rows = omega arith in let x : Row = with_field Value new (row k.m.rows r) in let rows' : List Row = changed k.m.rows r Value new in
     let is_key : (row k.m.rows r).key ≡ key = known_is k.m.rows v.holds v.knows r Key key (k.known id v at) key_known in
@@ -71,13 +109,19 @@ stores about slots id me r key new low passing writing held reached key_known bo
       w,
       keeps,
       tt,
-      entering about s.words s.views k id v at (set s.words (word_at r Value) new) rows' e b v.own v.wrote (fact r Value new ∷ forgotten v.knows r Value) Anywhere (cell_set k.memory r Value low new) passing writing refl reply moves (λ n d. refl) (λ j u there n c. tt)
+      entering about s.words s.views k id v at (set s.words (word_at r Value) new) rows' e b v.reached v.own v.wrote (fact r Value new ∷ forgotten v.knows r Value) w.debt Anywhere (k.reached id v at) (cell_set k.memory r Value low new) passing writing refl reply moves (λ n d. refl) (λ j u there n c. tt)
           (locks_stay s.views id v at k.m.rows r x w k.locked refl near refl refl (sym (ap in_write writing)))
           (each_others s.views id v at w (λ j u ne there. facts_elsewhere k.m.rows r x u.holds u.holds u.knows (k.known j u there) (others_apart s.views id v at k.m.rows r k.locked held j u ne there) (λ y. omega arith))
           (ap (λ (y : Row). y.value) (row_same k.m.rows r x near), held, facts_left k.m.rows r Value new v.holds v.knows near (k.known id v at)))
           (apart_changed s.views id v w at k.m.next k.m.rows k.g.linked k.apart (λ u j there. omega (arith, k.drawn.none_zero, term_le (λ y. times 0 y.drawn) s.views j u there)) r x
           (λ y pos z ne. let q = row_other k.m.rows r y x ne in let f = k.apart.fresh y pos z in (ap (λ (o : Row). o.lock) q ∙ f.0, ap (λ (o : Row). o.stamp) q ∙ f.1)) (λ pos. in_times r k.g.linked is_linked) refl refl refl)
-          (stamps_same k.m.rows r x near refl),
+          (stamps_same k.m.rows r x near refl) (
+            (λ j u ne there n c. leaves_apart st s' n (moves.2 n tt) (heights_same k.m.rows r x near refl)),
+            subst (λ (g : Doing). DebtDoing s' g w.debt) (sym whole) (no_turn (call_key (call_of key new)) new (subst (λ (g : Doing). DebtDoing st g v.debt) whole (k.debts id v at).0)),
+            λ room ok. subst (λ (z : Table). DebtOk z (updates.changed (debts_of s.views) id w.debt)) (sym path)
+                (subst (λ (u : Debt). DebtOk (entry_kinds.value_stored st r e) (updates.changed (debts_of s.views) id u)) (debt_is st (call_key (call_of key new)) new (debts_of s.views id) (debts_at s.views id v at) (known_word k.m.rows v.holds v.knows r Stamp born.stamp (k.known id v at) born.is_stamp))
+                (store_owes st (debts_of s.views) id r e k.table ok may (held_free k id v at r held) (λ _. owes_none k id v at (ap is_live passing) owes room))),
+          ),
       λ r' same. let at_row = one_word r r' Value Value same in (
         key,
         (λ y there. sym (known_is k.m.rows v.holds v.knows r Key y (k.known id v at) (subst (λ z. IsKnown v.knows z Key y) (sym at_row.0) there)) ∙ is_key),
@@ -87,6 +131,14 @@ stores about slots id me r key new low passing writing held reached key_known bo
         ap (λ (z : ℕ). (stored v k.g.history e z new, me.1)) at_row.0,
       ),
     )
+  where
+    no_turn : (a n : ℕ) → me.0.debt.turning ≡ None → (value_debt me.0 a r n).turning ≡ None
+    no_turn a zero h = refl
+    no_turn a (suc n) h = h
+
+    debt_is : (t : Table) (a n : ℕ) (u : Debt) → u ≡ me.0.debt → t.stamp r ≡ Rattle.snap_steps.specs.Facts.word_in me.0.knows r Stamp → stored_debt t r a (call_value (call_of key n)) u ≡ value_debt me.0 a r n
+    debt_is t a zero u same is_stamp = ap (λ l. debt_with a l) (listing_is t r (Rattle.snap_steps.specs.Facts.word_in me.0.knows r Stamp) [] is_stamp)
+    debt_is t a (suc n) u same is_stamp = same
 
 -- `confirm_absent`
 pub confirms : (about : About) (slots id : ℕ) (me : Sat) (r key : ℕ) → r ≤ about.rows → me.0.role ≡ Passing → me.0.stage ≡ Writing false false → 0 < times r me.0.reached → IsKnown me.0.knows r Key key → IsKnown me.0.knows r Value 0 → IsBorn me.0 r
@@ -105,10 +157,10 @@ confirms about slots id me r key low passing writing reached key_known value_kno
       w,
       keeps,
       tt,
-      entering about s.words s.views k id v at (set s.words (word_at r Value) (get_or s.words (word_at r Value) 0)) k.m.rows e k.g v.own v.wrote v.knows Anywhere (loaded k.memory (word_at r Value)) passing writing refl (sym none_there) moves (λ n d. refl) (λ j u there n c. tt)
+      entering about s.words s.views k id v at (set s.words (word_at r Value) (get_or s.words (word_at r Value) 0)) k.m.rows e k.g v.reached v.own v.wrote v.knows v.debt Anywhere (k.reached id v at) (loaded k.memory (word_at r Value)) passing writing refl (sym none_there) moves (λ n d. refl) (λ j u there n c. tt)
           (locked_stays s.views id v w at k.m.rows k.locked refl refl (λ x. omega (arith, k.locked.writing id v at x, ap in_write writing)))
           (each_stays s.views id v w at (KnowsRows k.m.rows) k.known (λ p. p))
-          (apart_stays s.views id v w at k.m.next k.m.next k.m.rows k.g.linked k.apart (omega arith) (λ p. p) (λ p. p)) (λ n. refl),
+          (apart_stays s.views id v w at k.m.next k.m.next k.m.rows k.g.linked k.apart (omega arith) (λ p. p) (λ p. p)) (λ n. refl) (absent_owed k id v at e moves),
       (k.g.history, record { goes_on = seen.0; legal = legal_more k.g.history e k.history.legal (sym none_there); own = sym own.0 }, refl),
     )
 
@@ -124,9 +176,10 @@ counts_done about slots id me writing s k wide at small =
       w,
       keeps,
       tt,
-      turning about s.words s.views k id v at (set s.words 3 new) (record k.m { done = new }) v.notes v.handed v.epochs (Writing true true) v.uses v.present v.copies (done_set k.memory new) refl refl (k.notes id v at) (omega (arith, o)) (omega (arith, q)) refl (λ x. omega (arith, k.locked.writing id v at x, a)) ((k.present id v at).0, λ z. absurd (omega (arith, z)))
+      turning about s.words s.views k id v at (set s.words 3 new) (record k.m { done = new }) v.notes v.handed v.epochs (Writing true true) v.uses v.present v.copies v.debt v.reads v.place (done_set k.memory new) refl refl (k.notes id v at) (omega (arith, o)) (omega (arith, q)) refl (λ x. omega (arith, k.locked.writing id v at x, a)) ((k.present id v at).0, λ z. absurd (omega (arith, z)))
           (gated_moves s.views id v w at k.m.gate k.m.left k.m.gate k.m.left g (omega arith) (omega (arith, g.one)) (λ some. absurd (omega (arith, g.quiet (omega (arith, total-set (λ u. is_quiet u.stage) s.views id v w at)))))
           (each_stays s.views id v w at (λ u. IsAt k.m.gate u.stage) g.at (λ p. tt)))
-          (used_moves s.views id v w at k.m.gate k.m.epoch k.m.gate k.m.epoch k.used refl refl refl (omega (arith, c)) (k.used.few id v at).0) (omega arith) (λ z. omega (arith, a)) (λ z. absurd (omega (arith, a, ap in_write (k.acting id v at z).0))) (λ z. absurd (omega (arith, z))),
+          (used_moves s.views id v w at k.m.gate k.m.epoch k.m.gate k.m.epoch k.used refl refl refl (omega (arith, c)) (k.used.few id v at).0) (omega arith) (λ z. omega (arith, a)) (λ z. absurd (omega (arith, a, ap in_write (k.acting id v at z).0))) (λ z. absurd (omega (arith, z)))
+          ((k.debts id v at).0, (λ z. absurd (omega (arith, z))), λ room ok. owed_itself s.views id v at (state_of k.m k.g) ok) (k.ways id v at, k.places id v at),
       refl,
     )

@@ -1,5 +1,5 @@
 -- Clones, once the table has evolved.
-use Rattle.std.proofs.Common.{◌≡◌, ◌∙◌, ◌<◌, inl, refl, ℕ, List, [], ◌∷◌, ◌++◌, sym, ap, arith, append_assoc, append-nil, subst, Bool, true, false}
+use Rattle.std.proofs.Common.{◌≡◌, ◌∙◌, ◌<◌, inl, inr, lit<, refl, ℕ, List, [], ◌∷◌, ◌++◌, sym, ap, arith, append_assoc, append-nil, subst, Bool, true, false}
 use Rattle.snap_model.specs.History.{Begins}
 use Rattle.snap_rule.proofs.Readers.Kept.{image_kept}
 use Rattle.snap_rule.specs.Evolves.{Evolves}
@@ -12,10 +12,12 @@ use Rattle.snap_steps.specs.Counting.{total}
 use Rattle.snap_steps.specs.Each.{Each}
 use Rattle.snap_steps.specs.Roles.{no_base}
 use Rattle.snap_steps.specs.Rule.{Kept}
-use Rattle.snap_steps.specs.Rule.Bases.{IsBase, KnowsBase}
+use Rattle.snap_steps.specs.Rule.Bases.{HasCause, IsBase, KnowsBase}
 use Rattle.snap_steps.specs.Stages.{has_cut, in_write, is_quiet, after_left}
 use Rattle.snap_steps.specs.States.{state_of}
 use Rattle.snap_steps.specs.declared.rule.About.{About}
+use Rattle.snap_steps.specs.declared.view.Balance.{Balance}
+use Rattle.snap_steps.specs.declared.view.Balance.TheVariants.{Settled, RowsOut, StampOut}
 use Rattle.snap_steps.specs.declared.view.Base.{Base}
 use Rattle.snap_steps.specs.declared.view.Part.{Part}
 use Rattle.snap_steps.specs.declared.view.Part.TheVariants.{Top}
@@ -40,13 +42,18 @@ tree_of-parts t = ap (λ (l : List Part). first_tree (built l [])) (sym (append-
 -- where nothing was cut
 pub no_base_is : (s : Table) → IsBase s no_base
 unfolding tree_of
-no_base_is s = record { begins = record { rest = s.history; is = refl }; image = record { top = refl; reads = tt; rows = tt }; clone = record { legal = tt; ordered = tt; tells = refl } }
+no_base_is s = record { begins = record { rest = s.history; is = refl }; image = record { top = refl; reads = tt; rows = tt }; clone = record { legal = tt; ordered = tt; tells = refl; short = lit< tt }; cause = tt }
+
+cause_kept : (s s' : Table) → Evolves s s' → (b : Balance) → HasCause s b → HasCause s' b
+cause_kept s s' ev Settled h = tt
+cause_kept s s' ev RowsOut h = tt
+cause_kept s s' ev (StampOut row) h = record { linked = ev.linked row h.linked; last = omega (arith, h.last, ev.stamp row (inr h.linked)) }
 
 begins_on : {A : Type 0} (xs ys zs : List A) → Begins xs ys → Begins ys zs → Begins xs zs
 begins_on xs ys zs a b = subst (Begins xs) b.is (begins_more xs ys b.rest a)
 
 pub base_evolves : (s s' : Table) → Evolves s s' → (b : Base) → IsBase s b → IsBase s' b
-base_evolves s s' ev b h = let t : Tree = tree_of b.parts in record { begins = begins_on b.history s.history s'.history h.begins ev.history; image = image_kept s s' ev (root t) t h.image; clone = h.clone }
+base_evolves s s' ev b h = let t : Tree = tree_of b.parts in record { begins = begins_on b.history s.history s'.history h.begins ev.history; image = image_kept s s' ev (root t) t h.image; clone = h.clone; cause = cause_kept s s' ev b.balance h.cause }
 
 -- no entry is made where no pass is in a write
 pub bases_evolve : (about : About) (words : List ℕ) (views : List View) (k : Kept about words views) (s' : Table) → Evolves (state_of k.m k.g) s' → (total (λ v. in_write v.stage) views ≡ 0 → s'.history ≡ k.g.history) → Each (KnowsBase s') views

@@ -1,11 +1,13 @@
 -- The steps of a rotation.
-use Rattle.std.specs.Prelude.{◌≡◌, ◌≢◌, ◌⊎◌, ℕ, ◌+◌, ◌∷◌}
+use Rattle.std.specs.Prelude.{◌≡◌, ◌≢◌, ◌⊎◌, ℕ, ◌+◌, ◌∷◌, Some}
 use Rattle.atomic_table.specs.Table.{Step}
 use Rattle.snap_rule.specs.declared.change.Doing.TheVariants.{Shrunk}
-use Rattle.snap_stamp.specs.declared.layout.Field.TheVariants.{Stamp}
+use Rattle.snap_stamp.specs.declared.layout.Field.TheVariants.{Key, Stamp}
 use Rattle.snap_stamp.specs.declared.side.Side.{Side}
 use Rattle.snap_steps.specs.declared.view.View.{View}
 use Rattle.snap_steps.specs.Counting.{Among}
+use Rattle.snap_rule.specs.Debt.{no_debt}
+use Rattle.snap_steps.specs.Steps.Debts.{listing, KnowsReason}
 use Rattle.snap_steps.specs.States.{link_field}
 use Rattle.snap_steps.specs.Facts.{IsKnown, IsBorn, forgotten, fact}
 use Rattle.snap_steps.specs.Steps.Told.{Sat, Has}
@@ -26,9 +28,22 @@ pub record IsTurn (v : View) (parent : ℕ) (p : Side) (r : ℕ) (d : Side) (rai
   pub raised_child : IsKnown v.knows r (link_field d) raised
   pub apart : (raised ≢ r) × (parent ≢ r) × (parent ≢ raised)
 
--- the row has the shrinking mark
-abbrev pub shrunk : View → ℕ → Side → ℕ → Side → ℕ → ℕ → View
-shrunk v parent p r d raised x = record v { steps = v.steps + 1; doing = Shrunk parent p r d raised; knows = fact r Stamp x ∷ forgotten v.knows r Stamp }
+-- the to-do key is that of a row, which isn't row 0
+pub record AimsAt (v : View) (r : ℕ) : Type 0 where
+  pub is_row : r ≢ 0
+  pub key : ℕ
+  pub is_key : IsKnown v.knows r Key key
+  pub to_do : v.debt.to_do ≡ Some key
 
-abbrev pub shrinking_stored : ℕ → Side → ℕ → Side → ℕ → Step (Unit {0}) → Sat → ℕ → Sat → Type 0
-shrinking_stored parent p row d raised st m r n = Has m n (shrunk m.0 parent p row d raised st.first)
+-- the to-do key once the row is marked: the row's key, or the raised row's where it is that already
+abbrev pub TurnsFor : View → ℕ → ℕ → ℕ → ℕ → Type 0
+TurnsFor v parent r raised key =
+    IsKnown v.knows r Key key × ((v.debt ≡ no_debt) ⊎ KnowsReason v ⊎ AimsAt v r ⊎ AimsAt v parent)
+    ⊎ IsKnown v.knows raised Key key × (KnowsReason v ⊎ (v.debt.to_do ≡ Some key))
+
+-- the row has the shrinking mark
+abbrev pub shrunk : View → ℕ → Side → ℕ → Side → ℕ → ℕ → ℕ → View
+shrunk v parent p r d raised x key = record v { steps = v.steps + 1; debt = record { to_do = Some key; list = listing r x v.debt.list; turning = Some r }; doing = Shrunk parent p r d raised; knows = fact r Stamp x ∷ forgotten v.knows r Stamp }
+
+abbrev pub shrinking_stored : ℕ → Side → ℕ → Side → ℕ → ℕ → Step (Unit {0}) → Sat → ℕ → Sat → Type 0
+shrinking_stored parent p row d raised key st m r n = Has m n (shrunk m.0 parent p row d raised st.first key)

@@ -1,5 +1,5 @@
 -- A lazy copy: a row of the pass, filled with the words of a shared child, takes its place below the parent.
-use Rattle.std.specs.Prelude.{◌≡◌, ◌⊎◌, ℕ, ◌<◌, [], ◌∷◌}
+use Rattle.std.specs.Prelude.{◌≡◌, ◌⊎◌, ℕ, ◌<◌, List, [], ◌∷◌, Option, None, Some}
 use Rattle.atomic_table.specs.Table.{Step}
 use Rattle.snap_rule.specs.declared.reader.Point.TheVariants.{Standing}
 use Rattle.snap_rule.specs.declared.reader.Reading.TheVariants.{On}
@@ -51,9 +51,14 @@ pub record IsCopy (v : View) (copy row : ℕ) : Type 0 where
   pub is_birth : IsKnown v.wrote copy Birth birth
   pub now : Among birth v.present
 
--- the copy was linked, and is reached. The copies of this write are for that key
-abbrev pub copied : View → ℕ → ℕ → Field → ℕ → View
-copied v key parent f copy = record v { own = removed copy v.own; wrote = forgotten_row v.wrote copy; knows = fact parent f copy ∷ forgotten v.knows parent f; reached = copy ∷ v.reached; copies = key ∷ [] }
+-- the keys of this write's copies, once one was made at the place of this key, or at one that has none
+abbrev pub copies_for : List ℕ → Option ℕ → List ℕ
+copies_for l None = l
+copies_for l (Some key) = key ∷ []
 
-abbrev pub copy_linked : Step (Unit {0}) → Sat → ℕ → Sat → Type 0
-copy_linked st m r n = (key parent stamp : ℕ) (side : Side) → st.word ≡ word_at parent (link_field side) → m.0.place ≡ On key (Standing parent stamp side) → Has m n (copied m.0 key parent (link_field side) st.first)
+-- the copy was linked, and is reached
+abbrev pub copied : View → Option ℕ → ℕ → Field → ℕ → View
+copied v key parent f copy = record v { own = removed copy v.own; wrote = forgotten_row v.wrote copy; knows = fact parent f copy ∷ forgotten v.knows parent f; reached = copy ∷ v.reached; copies = copies_for v.copies key }
+
+abbrev pub copy_linked : Option ℕ → Step (Unit {0}) → Sat → ℕ → Sat → Type 0
+copy_linked key st m r n = (parent : ℕ) (side : Side) → st.word ≡ word_at parent (link_field side) → Has m n (copied m.0 key parent (link_field side) st.first)

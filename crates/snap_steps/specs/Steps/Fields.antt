@@ -35,9 +35,9 @@ is_last Left n = false
 is_last Right n = false
 is_last Value n = false
 
--- a load of a field: it is known from then on where the row is held
+-- a load of a field: it is known from then on where the row is held. A stamp at its greatest count is kept with the words for which the pass was refused a row
 abbrev pub read : View → ℕ → Field → ℕ → View
-read v r f n = record v { steps = v.steps + 1; knows = cond (nat_lt 0 (times r v.holds)) (fact r f n ∷ v.knows) v.knows; reached = v.reached ++ led_to v r f n; worn = v.worn || is_last f n }
+read v r f n = record v { steps = v.steps + 1; refused = cond (is_last f n) (v.refused ++ fact r f n ∷ []) v.refused; knows = cond (nat_lt 0 (times r v.holds)) (fact r f n ∷ v.knows) v.knows; reached = v.reached ++ led_to v r f n; worn = v.worn || is_last f n }
 
 -- a word was stored in a row of the pass that isn't linked
 abbrev pub own_stored : View → ℕ → Field → ℕ → View

@@ -58,7 +58,7 @@ abbrev pub left_seen : View → ℕ → View
 left_seen v r = record (noted v (notes.Left r)) { stage = after_left v.stage r }
 
 abbrev pub next_loaded : Step (Unit {0}) → Sat → ℕ → Sat → Type 0
-next_loaded st m r n = (st.word ≡ next_at) × Has m n (noted m.0 (Next r)) × (r ≤ m.0.rows)
+next_loaded st m r n = (st.word ≡ next_at) × Has m n (noted m.0 (Next r)) × (r ≤ m.0.rows) × (m.0.base.drawn ≤ r)
 
 abbrev pub gate_loaded : Step (Unit {0}) → Sat → ℕ → Sat → Type 0
 gate_loaded st m r n = (st.word ≡ gate_at) × Has m n (noted m.0 (Gate r))

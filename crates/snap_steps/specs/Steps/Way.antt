@@ -23,6 +23,10 @@ use Rattle.snap_stamp.specs.declared.side.Side.TheVariants as sides
 abbrev pub set_out_for : View → List Entry → ℕ → View
 set_out_for v seen key = record v { seen = seen; reads = On key (Standing 0 0 sides.Right); confirmed = []; place = Resting }
 
+-- a reader sets out for a key again, and has seen no more
+abbrev pub begun_again : View → ℕ → View
+begun_again v key = record v { steps = v.steps + 1; reads = On key (Standing 0 0 sides.Right); confirmed = []; place = Resting }
+
 -- where the reader is once it has loaded its next word: at row 0 again where a word is another than it must be
 abbrev pub next_point : ℕ → Point → ℕ → Reading
 next_point k (Standing n v d) zero = On k (NoLink n v d)
@@ -162,6 +166,9 @@ HasAnswer (On k t) x h = Answers k t x h
 
 abbrev pub way_begun : ℕ → Step (Unit {0}) → Sat → ℕ → Sat → Type 0
 way_begun key st m r n = (st.word ≡ done_at) × (seen : List Entry) × Extends m.0 seen × (r ≤ length seen) × Has m n (set_out_for (noted m.0 (Done r)) seen key)
+
+abbrev pub way_begun_again : ℕ → Step (Unit {0}) → Sat → ℕ → Sat → Type 0
+way_begun_again key st m r n = Has m n (begun_again m.0 key)
 
 abbrev pub next_read : Step (Unit {0}) → Sat → ℕ → Sat → Type 0
 next_read st m r n = Has m n (read_on m.0 r) × HasBound m.0 r

@@ -1,5 +1,5 @@
 -- The steps that make the entry of a write, and the step that counts it.
-use Rattle.std.specs.Prelude.{zero, suc, ℕ, Option, true, false, List, [], ◌∷◌, ◌++◌, ◌≡◌, ◌⊎◌, None}
+use Rattle.std.specs.Prelude.{zero, suc, ℕ, Option, true, false, List, [], ◌∷◌, ◌++◌, ◌≡◌, ◌⊎◌, None, Some}
 use Rattle.atomic_table.specs.Table.{Step}
 use Rattle.snap_model.specs.declared.call.Call.{Call}
 use Rattle.snap_model.specs.declared.call.Call.TheVariants.{Put, Remove}
@@ -13,7 +13,10 @@ use Rattle.snap_stamp.specs.declared.layout.Field.TheVariants.{Value, Key, Birth
 use Rattle.snap_stamp.specs.declared.side.Side.{Side}
 use Rattle.snap_steps.specs.declared.view.View.{View}
 use Rattle.snap_steps.specs.declared.view.Stage.TheVariants.{Writing}
-use Rattle.snap_steps.specs.Facts.{forgotten, fact, IsKnown, IsBorn, forgotten_row}
+use Rattle.snap_model.specs.History.{call_key}
+use Rattle.snap_rule.specs.declared.debt.Debt.{Debt}
+use Rattle.snap_steps.specs.Steps.Debts.{listing}
+use Rattle.snap_steps.specs.Facts.{forgotten, fact, IsKnown, IsBorn, forgotten_row, word_in}
 use Rattle.snap_steps.specs.Counting.{removed, Among}
 use Rattle.snap_steps.specs.States.{link_field}
 use Rattle.snap_steps.specs.Steps.Told.{Sat, Has}
@@ -29,13 +32,26 @@ call_of key (suc v) = Put key v
 abbrev pub entry : ℕ → Call → Option ℕ → Entry
 entry who call reply = record { who = who; call = call; reply = reply }
 
+-- the debt of a write that puts a leaf below the parent, and of one that stores a value word
+abbrev pub leaf_debt : View → ℕ → ℕ → Debt
+leaf_debt v key parent = record { to_do = Some key; list = listing parent (word_in v.knows parent Stamp) []; turning = None }
+
+abbrev pub value_debt : View → ℕ → ℕ → ℕ → Debt
+value_debt v key r zero = leaf_debt v key r
+value_debt v key r (suc x) = v.debt
+
+-- the to-do key after a value word was stored
+abbrev pub after_value : Option ℕ → ℕ → ℕ → Option ℕ
+after_value to_do key zero = Some key
+after_value to_do key (suc x) = to_do
+
 -- the value word of a held row was written, and the entry of the write made
 abbrev pub stored : View → List Entry → Entry → ℕ → ℕ → View
-stored v log e r n = record v { reads = Resting; seen = log ++ e ∷ []; mine = v.mine ++ e ∷ []; stage = Writing true false; knows = fact r Value n ∷ forgotten v.knows r Value }
+stored v log e r n = record v { heights = []; debt = value_debt v (call_key e.call) r n; reads = Resting; seen = log ++ e ∷ []; mine = v.mine ++ e ∷ []; stage = Writing true false; knows = fact r Value n ∷ forgotten v.knows r Value }
 
 -- the entry of the write was made by a step that wrote nothing
 abbrev pub made_entry : View → List Entry → Entry → View
-made_entry v log e = record v { reads = Resting; seen = log ++ e ∷ []; mine = v.mine ++ e ∷ []; stage = Writing true false }
+made_entry v log e = record v { heights = []; reads = Resting; seen = log ++ e ∷ []; mine = v.mine ++ e ∷ []; stage = Writing true false }
 
 -- what was stored in the row makes it a leaf of this epoch
 pub record IsLeaf (v : View) (r a_key a_value : ℕ) : Type 0 where
@@ -60,9 +76,9 @@ pub record IsPlace (v : View) (key parent : ℕ) (f : Field) : Type 0 where
   pub none : IsKnown v.knows parent f 0
   pub live : (parent ≡ 0) ⊎ IsBorn v parent
 
--- a row of the pass was linked below a held one, and the entry of the write made
+-- a row of the pass was linked below a held one and is reached, and the entry of the write made
 abbrev pub hung : View → List Entry → Entry → ℕ → Field → ℕ → View
-hung v log e parent f r = record v { reads = Resting; seen = log ++ e ∷ []; mine = v.mine ++ e ∷ []; stage = Writing true false; own = removed r v.own; wrote = forgotten_row v.wrote r; knows = fact parent f r ∷ forgotten v.knows parent f }
+hung v log e parent f r = record v { heights = []; reached = r ∷ v.reached; debt = leaf_debt v (call_key e.call) parent; reads = Resting; seen = log ++ e ∷ []; mine = v.mine ++ e ∷ []; stage = Writing true false; own = removed r v.own; wrote = forgotten_row v.wrote r; knows = fact parent f r ∷ forgotten v.knows parent f }
 
 abbrev pub counted_one : View → View
 counted_one v = record v { stage = Writing true true }

@@ -1,4 +1,5 @@
-use Rattle.std.proofs.Common.{rules, sym, subst, ap, ◌∙◌, ◌≡◌, ◌+◌, ℕ, ◌<◌, ◌≤◌}
+use Rattle.snap_steps.specs.Roles.{is_live}
+use Rattle.std.proofs.Common.{rules, sym, subst, ap, ◌∙◌, ◌≡◌, ℕ, ◌<◌, ◌≤◌}
 use mathlib.Core.Option.{none}
 use Rattle.atomic_table.specs.Table.{step, Allows}
 use Rattle.snap_stamp.specs.Layout.{word_at}
@@ -16,7 +17,8 @@ store-requires g c =
     let row : c.args.row ≡ g.J.Turning.middle = c.requires.turn.2 in (
       search rules,
       near,
-      subst (λ (i : ℕ). Allows (Rule c.rows.inside.table.shared.key) c.rows.inside.table.shared.table_id.slots c.pass.inside.seat.id c.pass.inside.seat.me i (λ _. c.args.stamp + 2) (λ _. shrinking_stored g.J.Turning.upper g.J.Turning.upper_side g.J.Turning.middle g.J.Turning.middle_side g.J.Turning.lower (step c.rows.inside.table.shared.table_id.slots i (c.args.stamp + 2) 0 none) c.pass.inside.seat.me 0))
+      subst (λ (i : ℕ). Allows (Rule c.rows.inside.table.shared.key) c.rows.inside.table.shared.table_id.slots c.pass.inside.seat.id c.pass.inside.seat.me i (λ _. c.begun-marked.result) (λ _. shrinking_stored g.J.Turning.upper g.J.Turning.upper_side g.J.Turning.middle g.J.Turning.middle_side g.J.Turning.lower g.J.Turning.key (step c.rows.inside.table.shared.table_id.slots i c.begun-marked.result 0 none) c.pass.inside.seat.me 0))
           (sym (c.index_of-word.ensures ∙ ap (λ (y : ℕ). word_at y Stamp) row))
-          (shrinks c.rows.inside.table.shared.key c.rows.inside.table.shared.table_id.slots c.pass.inside.seat.id c.pass.inside.seat.me g.J.Turning.upper g.J.Turning.upper_side g.J.Turning.middle g.J.Turning.middle_side g.J.Turning.lower c.args.stamp (subst (λ (y : ℕ). y ≤ c.rows.inside.table.shared.key.rows) row low) (search rules) (search rules) c.requires.count.0 (search rules)),
+          (subst (λ (y : ℕ). Allows (Rule c.rows.inside.table.shared.key) c.rows.inside.table.shared.table_id.slots c.pass.inside.seat.id c.pass.inside.seat.me (word_at g.J.Turning.middle Stamp) (λ _. y) (λ _. shrinking_stored g.J.Turning.upper g.J.Turning.upper_side g.J.Turning.middle g.J.Turning.middle_side g.J.Turning.lower g.J.Turning.key (step c.rows.inside.table.shared.table_id.slots (word_at g.J.Turning.middle Stamp) y 0 none) c.pass.inside.seat.me 0)) (sym c.begun-marked.ensures)
+          (shrinks c.rows.inside.table.shared.key c.rows.inside.table.shared.table_id.slots c.pass.inside.seat.id c.pass.inside.seat.me g.J.Turning.upper g.J.Turning.upper_side g.J.Turning.middle g.J.Turning.middle_side g.J.Turning.lower c.args.stamp g.J.Turning.key (subst (λ (y : ℕ). y ≤ c.rows.inside.table.shared.key.rows) row low) (ap is_live c.pass.invariant.pass.passing) (search rules) (search rules) (search rules) c.requires.count.0 c.requires.count.1 (search rules))),
     )

@@ -7,7 +7,7 @@ pub returns-in-Ok : goal.returns-in-Ok
 returns-in-Ok g c =
     let some : c.loop.found ≢ c.args.rows.now.rows = grind (arith, common_steps) in
     let low : c.in-Ok.row ≤ c.args.rows.now.rows = omega (arith, some, c.loop.invariant.2.low, c.in-Ok.ensures.ok.0) in
-    drawn_at_last c.args.rows.now.rows c.loop.found c.in-Ok.row c.args.pass.now c.loop.pass c.try_draw.new.pass c.loop.invariant.2 some low c.in-Ok.ensures.ok.1
+    drawn_at_last c.args.rows.now.rows c.loop.found c.in-Ok.row c.args.pass.now c.loop.pass c.try_draw.new.pass c.loop.invariant.2 some (omega (arith, c.in-Ok.ensures.ok.0), low) c.in-Ok.ensures.ok.1
 
 pub loop-preserved : goal.loop-preserved
 loop-preserved g c =

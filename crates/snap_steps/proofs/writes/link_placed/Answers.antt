@@ -1,4 +1,4 @@
-use Rattle.std.proofs.Common.{rules, sym, subst, ◌∙◌, ◌≡◌, ◌^◌, ℕ, ◌<◌, ◌≤◌}
+use Rattle.std.proofs.Common.{ap, Some, rules, sym, subst, ◌∙◌, ◌≡◌, ◌^◌, ℕ, ◌<◌, ◌≤◌}
 use mathlib.Core.Option.{none}
 use Rattle.atomic_table.specs.Table.{step, Allows}
 use Rattle.snap_stamp.specs.Layout.{word_at}
@@ -31,11 +31,11 @@ store-requires g c =
           (sym (c.index_of-word.ensures ∙ (λ i. word_at (below i) (by_field i))))
           (links_leaf c.rows.inside.table.shared.key c.rows.inside.table.shared.table_id.slots c.pass.inside.seat.id c.pass.inside.seat.me c.args.row g.J.Leaf.key g.J.Leaf.value g.J.Leaf.below g.J.Leaf.by_field (subst (λ (r : ℕ). r ≤ c.rows.inside.table.shared.key.rows) below low) (subst (λ (x : ℕ). x < 2 ^ 64) key small) c.pass.invariant.pass.passing (search rules)
           (subst (λ (x : ℕ). IsLeaf c.pass.inside.seat.me.0 c.args.row x g.J.Leaf.value) key (subst (λ (x : ℕ). IsLeaf c.pass.inside.seat.me.0 c.args.row c.args.key x) value made))
-          (subst (λ (x : Field). IsPlace c.pass.inside.seat.me.0 g.J.Leaf.key g.J.Leaf.below x) by_field (subst (λ (x : ℕ). IsPlace c.pass.inside.seat.me.0 g.J.Leaf.key x c.args.field) below (subst (λ (x : ℕ). IsPlace c.pass.inside.seat.me.0 x c.args.parent c.args.field) key place))) (search rules))),
+          (subst (λ (x : Field). IsPlace c.pass.inside.seat.me.0 g.J.Leaf.key g.J.Leaf.below x) by_field (subst (λ (x : ℕ). IsPlace c.pass.inside.seat.me.0 g.J.Leaf.key x c.args.field) below (subst (λ (x : ℕ). IsPlace c.pass.inside.seat.me.0 x c.args.parent c.args.field) key place))) (search rules) (search rules))),
     )
 
 pub invariant_of-pass : goal.invariant_of-pass
 invariant_of-pass g c =
     let t = c.store.ensures.2 in let m = c.pass.inside.seat.me in let e : Entry = entry m.0.who (Put g.J.Leaf.key g.J.Leaf.value) None in let v : View = hung m.0 t.0 e g.J.Leaf.below g.J.Leaf.by_field c.number.result in
-    stays_pass m c.store.new.seat.me v c.pass.inside.who c.pass.inside.uses c.pass.inside.added c.pass.inside.taken ((c.pass.inside.added + 1) % 2 ^ 64) c.pass.inside.taken c.pass.invariant t.2 refl refl refl refl
+    stays_pass m c.store.new.seat.me v c.pass.inside.who c.pass.inside.uses c.pass.inside.added c.pass.inside.taken ((c.pass.inside.added + 1) % 2 ^ 64) c.pass.inside.taken c.pass.inside.to_do (Some c.args.key) (ap Some c.requires.leaf.0, (λ (e : Some c.args.key ≡ None). cc)) c.pass.invariant t.2 refl refl refl refl
     (pair_added m.0 v e c.pass.inside.added c.pass.inside.taken refl refl refl refl c.pass.invariant.pairs)

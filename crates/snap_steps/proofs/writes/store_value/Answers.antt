@@ -12,6 +12,9 @@ use Rattle.snap_stamp.specs.declared.layout.Field.TheVariants.{Key, Value}
 use Rattle.snap_steps.proofs.Passing.{stays_pass, entry_counted, becomes}
 use Rattle.snap_steps.proofs.Cells.{word_within}
 use Rattle.snap_steps.proofs.Keeps.Writes.{stores}
+use Rattle.snap_model.specs.History.{call_key}
+use Rattle.snap_steps.proofs.Classes.Entering.{key_made}
+use Rattle.snap_steps.proofs.Passing.{stored_to_do}
 use Rattle.std.proofs.Common.{ap, ◌∙◌, ◌%◌, ◌^◌, ◌+◌}
 use Rattle.snap_steps.specs.Pairs.{added_by, taken_by}
 use Rattle.snap_model.specs.declared.call.Entry.{Entry}
@@ -21,7 +24,7 @@ pub swap-was-requires : goal.swap-was-requires
 swap-was-requires c =
     let low : c.args.row ≤ c.rows.inside.table.shared.key.rows = search rules in
     let near : c.index_of-word.result < c.rows.inside.table.shared.table_id.words = word_within _ _ c.args.row c.rows.inside.rows Value c.index_of-word.ensures (search rules) c.rows.invariant.words_are in
-    (search rules, near, subst (λ (i : ℕ). Allows (Rule c.rows.inside.table.shared.key) c.rows.inside.table.shared.table_id.slots c.pass.inside.seat.id c.pass.inside.seat.me i (λ _. c.args.new) (value_stored (step c.rows.inside.table.shared.table_id.slots i c.args.new 0 none) c.pass.inside.seat.me)) (sym c.index_of-word.ensures) (stores c.rows.inside.table.shared.key c.rows.inside.table.shared.table_id.slots c.pass.inside.seat.id c.pass.inside.seat.me c.args.row c.args.key c.args.new low c.pass.invariant.pass.passing (search rules) (search rules) (search rules) (search rules) (search rules)))
+    (search rules, near, subst (λ (i : ℕ). Allows (Rule c.rows.inside.table.shared.key) c.rows.inside.table.shared.table_id.slots c.pass.inside.seat.id c.pass.inside.seat.me i (λ _. c.args.new) (value_stored (step c.rows.inside.table.shared.table_id.slots i c.args.new 0 none) c.pass.inside.seat.me)) (sym c.index_of-word.ensures) (stores c.rows.inside.table.shared.key c.rows.inside.table.shared.table_id.slots c.pass.inside.seat.id c.pass.inside.seat.me c.args.row c.args.key c.args.new low c.pass.invariant.pass.passing (search rules) (search rules) (search rules) (search rules) (search rules) (search rules) (search rules)))
 
 pub invariant_of-pass : goal.invariant_of-pass
 invariant_of-pass c =
@@ -29,7 +32,7 @@ invariant_of-pass c =
     let key : c.args.key ≡ t.0 = t.1 c.args.key (subst (λ (k : Known). IsKnown k.view.knows c.args.row Key c.args.key) (sym c.pass.view_is) c.requires.key) in
     let e : Entry = entry m.0.who (call_of t.0 c.args.new) (value_of c.swap-was.result) in
     let v : View = stored m.0 t.3 e c.args.row c.args.new in
-    stays_pass m c.swap-was.new.seat.me v c.pass.inside.who c.pass.inside.uses c.pass.inside.added c.pass.inside.taken ((c.pass.inside.added + c.pairs_added.result) % 2 ^ 64) ((c.pass.inside.taken + c.pairs_taken.result) % 2 ^ 64) c.pass.invariant t.5 refl refl refl refl
+    stays_pass m c.swap-was.new.seat.me v c.pass.inside.who c.pass.inside.uses c.pass.inside.added c.pass.inside.taken ((c.pass.inside.added + c.pairs_added.result) % 2 ^ 64) ((c.pass.inside.taken + c.pairs_taken.result) % 2 ^ 64) c.pass.inside.to_do c.to_do_after-to_do.result (stored_to_do m.0 c.args.key (call_key (call_of t.0 c.args.new)) c.args.row c.args.new c.pass.inside.to_do c.to_do_after-to_do.result (key ∙ sym (key_made t.0 c.args.new)) c.to_do_after-to_do.ensures c.pass.invariant.to_do_is c.pass.invariant.keyless) c.pass.invariant t.5 refl refl refl refl
     (entry_counted m.0 v e c.pass.inside.added c.pass.inside.taken c.pairs_added.result c.pairs_taken.result refl refl
     (c.pairs_added.ensures ∙ ap (λ (k : ℕ). added_by (call_of k c.args.new) (value_of c.swap-was.result)) key)
     (c.pairs_taken.ensures ∙ ap (λ (k : ℕ). taken_by (call_of k c.args.new) (value_of c.swap-was.result)) key) c.pass.invariant.pairs)

@@ -1,0 +1,72 @@
+//! The search for the row at which a repair begins.
+ghost use Rattle.std.specs.Prelude.{◌≡◌, Bool};
+ghost use Rattle.snap_search.specs.Endings.{FindsEnd, end_at};
+ghost use Rattle.snap_steps.specs.Seen.{IsOf};
+ghost use Rattle.snap_steps.specs.declared.view.Stage.TheVariants.{Writing};
+
+use crate::down::{Spot, top};
+use crate::places::{Place, look_for_place};
+use snap_stamp::{Key, RowNo, Side};
+use snap_steps::{Pass, Rows, load_epoch, set_out_again};
+use std::sync::Wait;
+
+/// The last row of this epoch on the way of a key, with its stamp and the side, and the row above it. At row 0 there is
+/// no row above.
+#[derive(Clone, Copy)]
+pub struct Ending {
+    pub above: RowNo,
+    pub above_side: Side,
+    pub row: RowNo,
+    pub stamp: u64,
+    pub side: Side,
+    /// The row has the key.
+    pub here: bool,
+}
+
+/// Finds where the way of a key ends in the rows of this epoch, and the row above it, for a pass in a write. The pass
+/// has seen no more of the history then: what it has seen may end with the entry of its write. It loads `epoch` first,
+/// notes the births of the rows on its way, and waits for nothing but its own tries.
+pub fn find_to_repair<R: Wait>(rows: &Rows, rt: &R, pass: &mut Pass, key: Key) -> Ending
+    requires table { IsOf pass.old rows.now }
+    requires writing { (made : Bool) × (counted : Bool) × (pass.old.view.stage ≡ Writing made counted) }
+    ensures { FindsEnd rows.now.rows pass.old pass.new key result }
+{
+    let epoch = load_epoch(rows, pass);
+    set_out_again(rows, pass, key);
+    let mut above = top();
+    let mut spot = top();
+    for _ in rt.forever() {
+        match look_for_place(rows, pass, key, epoch, &spot) {
+            Ok(place) => return end_from(&place, &above, &spot),
+            Err(next) => {
+                above = spot;
+                spot = next;
+            }
+        }
+    }
+    unreachable!()
+}
+
+// The place with the row above its row: where the row has the key, that at which the last step down began.
+fn end_from(place: &Place, above: &Spot, spot: &Spot) -> Ending
+    ensures { result ≡ end_at place.now above.now spot.now }
+{
+    match *place {
+        Place::Here { row, stamp } => Ending {
+            above: spot.row,
+            above_side: spot.side,
+            row,
+            stamp: stamp.word(),
+            side: spot.side,
+            here: true,
+        },
+        Place::Below { row, stamp, side } | Place::Shared { row, stamp, side } => Ending {
+            above: above.row,
+            above_side: above.side,
+            row,
+            stamp: stamp.word(),
+            side,
+            here: false,
+        },
+    }
+}

@@ -1,0 +1,156 @@
+//! Where the to-do key of a pass moves: up from a settled row to its parent, or to a row at which nothing that is owed is
+//! lost. Each is a load that changes no word.
+ghost use Rattle.std.specs.Prelude.{◌≡◌, ◌≤◌, ℕ, Some};
+ghost use Rattle.snap_rule.specs.declared.change.Doing.TheVariants.{Nothing};
+ghost use Rattle.snap_stamp.specs.declared.layout.Field.TheVariants.{Key};
+ghost use Rattle.snap_stamp.specs.declared.side.Side.{Side};
+ghost use Rattle.snap_stamp.specs.declared.side.Side.TheVariants.{Right};
+ghost use Rattle.snap_steps.specs.Facts.{IsKnown};
+ghost use Rattle.snap_steps.specs.Seen.{IsOf, Becomes};
+ghost use Rattle.snap_steps.specs.Steps.Settling.{IsHeldRow, IsSeenSettled, MayAimAt, aimed_view, passed_up, row_aimed, up_passed};
+ghost use Rattle.snap_steps.specs.Steps.Unlinking.{HasKey, IsPair};
+
+use crate::fields::index_of;
+use crate::pass::Pass;
+use crate::rows::Rows;
+use crate::unlinking::to_do_at;
+use crate::view::View;
+use atomic_table::Play;
+use snap_stamp::{Field, Key, RowNo, Side};
+use std::marker::{Brand, PhantomData};
+
+/// A settled row and its parent, which the step is to tell of. Each call picks them.
+trait Rising {
+    ghost upper: { ℕ };
+
+    ghost upper_side: { Side };
+
+    ghost upper_key: { ℕ };
+
+    ghost lower: { ℕ };
+
+    ghost lower_key: { ℕ };
+}
+
+impl Rising for Brand {
+    ghost upper = { 0 };
+
+    ghost upper_side = { Right };
+
+    ghost upper_key = { 0 };
+
+    ghost lower = { 0 };
+
+    ghost lower_key = { 0 };
+}
+
+struct PassUp<J> {
+    marker: PhantomData<J>,
+}
+
+impl<J: Rising> Play<(), View> for PassUp<J> {
+    ghost then = { up_passed J.upper J.upper_key J.lower };
+}
+
+/// The row to which the to-do key moves, and its key. Each call picks them.
+trait Aiming {
+    ghost at: { ℕ };
+
+    ghost key: { ℕ };
+}
+
+impl Aiming for Brand {
+    ghost at = { 0 };
+
+    ghost key = { 0 };
+}
+
+struct TakeAim<J> {
+    marker: PhantomData<J>,
+}
+
+impl<J: Aiming> Play<(), View> for TakeAim<J> {
+    ghost then = { row_aimed J.at J.key };
+}
+
+fn up_told<J: Rising>(
+    rows: &Rows,
+    pass: &mut Pass,
+    parent: RowNo,
+    side: Side,
+    row: RowNo,
+    key: Key,
+    parent_key: Key,
+)
+    requires told { (parent ≡ J.upper) × (side ≡ J.upper_side) × (row ≡ J.lower) × (key ≡ J.lower_key) × (parent_key ≡ J.upper_key) }
+    requires table { IsOf pass.old rows.now }
+    requires row { row ≤ rows.now.rows }
+    requires pair { IsPair pass.old.view J.upper J.upper_side J.lower }
+    requires key { IsKnown pass.old.view.knows J.lower Key J.lower_key }
+    requires aims { pass.old.view.debt.to_do ≡ Some J.lower_key }
+    requires parent_key { HasKey pass.old.view J.upper J.upper_key }
+    requires settled { IsSeenSettled pass.old.view J.lower }
+    requires whole { pass.old.view.doing ≡ Nothing }
+    ensures { Becomes pass.old pass.new (passed_up pass.old.view J.upper J.upper_key J.lower) }
+{
+    let _told = (side, key);
+    let word = index_of(row, Field::Height);
+    rows.table.shared.load::<PassUp<J>>(&mut pass.seat, word);
+    let to_do = to_do_at(parent, parent_key);
+    pass.to_do = to_do;
+}
+
+/// Takes a settled row off the list: the to-do key, which is the row's, goes up to its parent. Above row 0 nothing is
+/// left to do.
+pub fn pass_up(
+    rows: &Rows,
+    pass: &mut Pass,
+    parent: RowNo,
+    side: Side,
+    row: RowNo,
+    key: Key,
+    parent_key: Key,
+)
+    requires table { IsOf pass.old rows.now }
+    requires row { row ≤ rows.now.rows }
+    requires pair { IsPair pass.old.view parent side row }
+    requires key { IsKnown pass.old.view.knows row Key key }
+    requires aims { pass.old.view.debt.to_do ≡ Some key }
+    requires parent_key { HasKey pass.old.view parent parent_key }
+    requires settled { IsSeenSettled pass.old.view row }
+    requires whole { pass.old.view.doing ≡ Nothing }
+    ensures { Becomes pass.old pass.new (passed_up pass.old.view parent parent_key row) }
+{
+    up_told::<Brand>(rows, pass, parent, side, row, key, parent_key);
+}
+
+fn aim_told<J: Aiming>(rows: &Rows, pass: &mut Pass, row: RowNo, key: Key)
+    requires told { (row ≡ J.at) × (key ≡ J.key) }
+    requires table { IsOf pass.old rows.now }
+    requires row { row ≤ rows.now.rows }
+    requires held { IsHeldRow pass.old.view J.at }
+    requires key { HasKey pass.old.view J.at J.key }
+    requires aims { MayAimAt pass.old.view J.at }
+    requires whole { pass.old.view.doing ≡ Nothing }
+    ensures { (x : ℕ) × Becomes pass.old pass.new (aimed_view pass.old.view J.at J.key x) }
+{
+    let word = index_of(row, Field::Stamp);
+    rows.table.shared.load::<TakeAim<J>>(&mut pass.seat, word);
+    let to_do = to_do_at(row, key);
+    pass.to_do = to_do;
+}
+
+/// The to-do key comes to be that of a held row, `key`, where nothing that is owed is lost: it is that already; or the row
+/// is the last of this epoch on its way; or it is that of the row's parent, which is held too. At row 0 nothing is left to
+/// do.
+pub fn aim(rows: &Rows, pass: &mut Pass, row: RowNo, key: Key)
+    requires table { IsOf pass.old rows.now }
+    requires row { row ≤ rows.now.rows }
+    requires held { IsHeldRow pass.old.view row }
+    requires key { HasKey pass.old.view row key }
+    requires aims { MayAimAt pass.old.view row }
+    requires whole { pass.old.view.doing ≡ Nothing }
+    ensures { (x : ℕ) × Becomes pass.old pass.new (aimed_view pass.old.view row key x) }
+{
+    aim_told::<Brand>(rows, pass, row, key);
+}
