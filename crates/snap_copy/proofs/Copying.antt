@@ -1,8 +1,9 @@
 -- The child of a held row, and the copy that takes its place.
-use Rattle.std.proofs.Common.{◌≡◌, ◌≢◌, ◌⊎◌, inl, inr, ℕ, ◌+◌, ◌<◌, ◌≤◌, Bool, true, false, cond, nat_lt, lt-ltb, List, [], ◌∷◌, ◌++◌, ◌==◌, ◌&&◌, eq-eqb, refl, sym, ap, ◌∙◌, subst, arith}
+use Rattle.std.proofs.Common.{◌≡◌, ◌≢◌, ◌⊎◌, inl, inr, Option, eqb-true, ℕ, ◌+◌, ◌<◌, ◌≤◌, Bool, true, false, cond, nat_lt, lt-ltb, List, [], ◌∷◌, ◌++◌, ◌==◌, ◌&&◌, ◌||◌, eq-eqb, refl, sym, ap, ◌∙◌, subst, arith}
 use Rattle.snap_copy.specs.Filling.{Keeps, Finds, filled, CopiesWord, Fills}
-use Rattle.snap_copy.specs.Owning.{IsOwn, with_copy, IsCopied, Lacks}
-use Rattle.snap_copy.proofs.Keeping.{keeps_on, read_keeps, learnt_keeps, epoch_keeps, stored_keeps, drew_keeps, older_still, above_still}
+use Rattle.snap_copy.specs.Mending.{NoWord}
+use Rattle.snap_copy.specs.Owning.{IsOwn, with_copy, IsCopiedAt, Lacks, LacksAt, OwnsAt, Stays, stayed}
+use Rattle.snap_copy.proofs.Keeping.{keeps_on, read_keeps, learnt_keeps, epoch_keeps, stored_keeps, drew_keeps, noted_keeps, older_still, place_still}
 use Rattle.snap_rule.specs.State.{In}
 use Rattle.snap_search.specs.Walk.{SeesMore}
 use Rattle.snap_search.specs.Work.{worked, Works}
@@ -12,21 +13,24 @@ use Rattle.snap_stamp.specs.declared.layout.Field.{Field}
 use Rattle.snap_stamp.specs.declared.layout.Field.TheVariants.{Key, Birth, Height, Left, Right, Value}
 use Rattle.snap_stamp.specs.declared.side.Side.{Side}
 use Rattle.snap_steps.specs.Counting.{times, removed, Among}
-use Rattle.snap_steps.specs.Drawing.{HasDrawn, FoundFull, notes_of}
+use Rattle.snap_steps.specs.Drawing.{AllLeft, HasDrawn, FoundFull, notes_of}
 use Rattle.snap_steps.specs.Facts.{IsKnown, IsBorn, forgotten, same_field}
 use Rattle.snap_steps.specs.Histories.{Extends}
 use Rattle.snap_steps.specs.Seen.{Known, Becomes}
 use Rattle.snap_steps.specs.States.{link_field}
 use Rattle.snap_steps.specs.Steps.Births.{learnt, born}
-use Rattle.snap_steps.specs.Steps.Copies.{IsOlder, IsAbove, HasWord, copied}
+use Rattle.snap_steps.specs.Steps.Copies.{IsOlder, HasWord, copied, copies_for}
+use Rattle.snap_steps.specs.Steps.Tilts.{IsCopyPlace, IsHeldLink, IsWriting}
+use Rattle.snap_steps.proofs.Cells.{one_place}
+use Rattle.snap_steps.proofs.Keeps.Copies.{held_link}
+use Rattle.snap_stamp.specs.Layout.{place_of}
 use Rattle.snap_steps.specs.Steps.Draws.{drew}
-use Rattle.snap_steps.specs.Steps.Fields.{read, led_to, own_stored}
+use Rattle.snap_steps.specs.Steps.Fields.{read, led_to, own_stored, is_last}
 use Rattle.snap_steps.specs.Steps.Header.{epoch_noted, all_noted}
 use Rattle.snap_steps.specs.declared.view.Fact.{Fact}
-use Rattle.snap_steps.specs.declared.view.Stage.TheVariants.{Writing}
 use Rattle.snap_steps.specs.declared.view.View.{View}
 use Rattle.snap_steps.specs.declared.view.WordNote.{WordNote}
-use Rattle.snap_steps.specs.declared.view.WordNote.TheVariants.{Next, Epoch}
+use Rattle.snap_steps.specs.declared.view.WordNote.TheVariants.{Next, Gate, Done, Epoch, Trouble, Left as LeftNote, Birth as BirthNote}
 use Rattle.snap_stamp.specs.declared.side.Side.TheVariants as sides
 
 abbrev known_as : Known → View → Known
@@ -68,8 +72,8 @@ last_yes a true c l ea ec = ap (λ (x : Bool). cond x l []) ea
 last_yes a false c l ea ec = ap (λ (x : Bool). cond x (cond c l []) []) ea ∙ ap (λ (x : Bool). cond x l []) ec
 
 -- a link below the held row leads to its child
-leads : (v : View) (key parent n : ℕ) (d : Side) (child : ℕ) → IsAbove v key parent d child → 0 < n → Among n (led_to v parent (link_field d) n)
-leads v key parent n d child h pos = go d h.live
+leads : (v : View) (parent n : ℕ) (d : Side) (child : ℕ) → IsHeldLink v parent d child → 0 < n → Among n (led_to v parent (link_field d) n)
+leads v parent n d child h pos = go d h.live
   where
     yes : nat_lt 0 n ≡ true
     yes = lt-ltb 0 n pos
@@ -80,23 +84,24 @@ leads v key parent n d child h pos = go d h.live
     go sides.Right (inl z) = subst (Among n) (sym (last_yes (nat_lt 0 n) (nat_lt 0 (times parent v.reached)) (parent == 0) (n ∷ []) yes (eq-eqb parent 0 z.0))) (one_of n)
     go sides.Right (inr l) = subst (Among n) (sym (both_yes (nat_lt 0 n) (nat_lt 0 (times parent v.reached)) (n ∷ []) (cond (parent == 0) (n ∷ []) []) yes (lt-ltb 0 (times parent v.reached) l.0))) (one_of n)
 
-pub low_child : (v : View) (rows key parent word : ℕ) (d : Side) (f : Field) (child : ℕ) → child ≢ 0 → IsAbove v key parent d child → f ≡ link_field d → ((x : ℕ) → IsKnown v.knows parent f x → word ≡ x) → ((c : ℕ) → Among c (led_to v parent f word) → c ≤ rows) → word ≤ rows
-low_child v rows key parent word d f child some_row h by known led =
+pub low_child : (v : View) (rows : ℕ) (parent word : ℕ) (d : Side) (f : Field) (child : ℕ) → child ≢ 0 → IsHeldLink v parent d child → f ≡ link_field d → ((x : ℕ) → IsKnown v.knows parent f x → word ≡ x) → ((c : ℕ) → Among c (led_to v parent f word) → c ≤ rows) → word ≤ rows
+low_child v rows parent word d f child some_row h by known led =
     let same : word ≡ child = known child (subst (λ (g : Field). IsKnown v.knows parent g child) (sym by) h.child_is) in
-    led word (subst (λ (g : Field). Among word (led_to v parent g word)) (sym by) (leads v key parent word d child h (omega arith)))
+    led word (subst (λ (g : Field). Among word (led_to v parent g word)) (sym by) (leads v parent word d child h (omega arith)))
 
-pub child_found : (rows : ℕ) (old new : Known) (key parent word c : ℕ) (d : Side) (f : Field) (child : ℕ) → child ≢ 0 → IsAbove old.view key parent d child → f ≡ link_field d → Becomes old new (read old.view parent f word) → ((x : ℕ) → IsKnown old.view.knows parent f x → word ≡ x) → word ≤ rows → c ≡ word
-    → Finds rows old new key parent d c
-child_found rows old new key parent word c d f child some_row h by e known low is =
-    let same : c ≡ child = is ∙ known child (subst (λ (g : Field). IsKnown old.view.knows parent g child) (sym by) h.child_is) in
+pub child_found : (rows : ℕ) (old new : Known) (parent word c : ℕ) (d : Side) (f : Field) (child : ℕ) → child ≢ 0 → IsHeldLink old.view parent d child → f ≡ link_field d → Becomes old new (read old.view parent f word) → ((x : ℕ) → IsKnown old.view.knows parent f x → word ≡ x) → word ≤ rows → c ≡ word
+    → Finds rows old new parent d c
+child_found rows old new parent word c d f child some_row h by e known low is =
+    let theirs : (x : ℕ) → IsKnown old.view.knows parent (link_field d) x → c ≡ x = λ (x : ℕ) (k : IsKnown old.view.knows parent (link_field d) x). is ∙ known x (subst (λ (g : Field). IsKnown old.view.knows parent g x) (sym by) k) in
+    let same : c ≡ child = theirs child h.child_is in
     let step : Becomes old new (read old.view parent (link_field d) c) = e ∙ (λ i. known_as old (read old.view parent (by i) (sym is i))) in
-    let above : IsAbove old.view key parent d c = subst (IsAbove old.view key parent d) (sym same) h in
-    let on : KeptBy old new = kept_by old new (read old.view parent (link_field d) c) step (read_keeps old.view parent (link_field d) c) in record {
+    let led : Among c (led_to old.view parent (link_field d) c) = leads old.view parent c d child h (omega (arith, same, some_row)) in record {
       step = step;
       some_row = λ z. some_row (sym same ∙ z);
       low = omega (arith, is);
-      reached = subst (λ (k : Known). Among c k.view.reached) (sym step) (omega (arith, times-append c old.view.reached (led_to old.view parent (link_field d) c), leads old.view key parent c d c above (omega arith)));
-      above = above_still old.view new.view key parent d c on above;
+      reached = subst (λ (k : Known). Among c k.view.reached) (sym step) (omega (arith, times-append c old.view.reached (led_to old.view parent (link_field d) c), led));
+      was = subst (IsKnown old.view.knows parent (link_field d)) (sym same) h.child_is;
+      known = theirs;
     }
 
 -- one field of the copy
@@ -138,57 +143,90 @@ copy_filled a b c d e f g child copy epoch own now s1 s2 s3 s4 s5 s6 =
     }
 
 -- what the pass knows of the child once it has loaded the epoch and its birth
-pub record Looks (old new : Known) (key parent : ℕ) (d : Side) (child epoch birth : ℕ) : Type 0 where
+pub record Looks (rows : ℕ) (old new : Known) (key : Option ℕ) (parent : ℕ) (d : Side) (child epoch birth : ℕ) : Type 0 where
   pub works : Works old new (Epoch epoch ∷ [])
   pub now : Among epoch new.view.present
   pub known : IsKnown new.view.lasting child Birth birth
-  pub above : IsAbove new.view key parent d child
+  pub at : IsCopyPlace new.view key parent d child
+  pub was : IsKnown old.view.knows parent (link_field d) child
   pub past : birth ≤ epoch
+  pub stays : Stays old new key NoWord
+  pub low : child ≤ rows
+  pub some_row : child ≢ 0
+  pub reached : Among child new.view.reached
 
 born_works : (old new : Known) (r b : ℕ) → Becomes old new (born old.view r b) → Works old new []
 born_works old new r b e = record {
   is = e ∙ ap (λ (k : Known). worked old k.view) (sym e);
-  noted = no_notes old.view new.view (ap (λ (k : Known). k.view.notes) e) (ap (λ (k : Known). k.view.handed) e) (ap (λ (k : Known). k.view.epochs) e);
+  noted = no_notes old.view new.view (ap (λ (k : Known). k.view.notes) e) (ap (λ (k : Known). k.view.handed) e) (ap (λ (k : Known). k.view.epochs) e) (λ h. ap (λ (k : Known). k.view.worn) e ∙ ap (λ (t : Bool). t || is_last Birth b) h);
   sees = inl (ap (λ (k : Known). k.view.seen) e);
   kept = λ n. omega (arith, ap (λ (k : Known). times n k.view.reached) e, times-append n old.view.reached (led_to old.view r Birth b));
   lasting = λ n g y h. subst (λ (k : Known). IsKnown k.view.lasting n g y) (sym e) (inr h);
   present = λ y h. subst (λ (k : Known). Among y k.view.present) (sym e) h;
 }
 
-pub looks : (rows : ℕ) (old a b new : Known) (key parent : ℕ) (d : Side) (child epoch birth : ℕ) → old.view.stage ≡ Writing false false → Finds rows old a key parent d child → Becomes a b (epoch_noted a.view epoch) → Becomes b new (born b.view child birth) → ((e : ℕ) → Among e b.view.present → birth ≤ e) → Looks old new key parent d child epoch birth
-looks rows old a b new key parent d child epoch birth writing f e1 e2 past =
-    let writing_a : a.view.stage ≡ Writing false false = ap (λ (k : Known). k.view.stage) f.step ∙ writing in
-    let now : Among epoch b.view.present = subst (λ (k : Known). Among epoch k.view.present) (sym e1) (epoch_now a.view.stage false false epoch a.view.present writing_a) in
-    let k1 = kept_by a b (epoch_noted a.view epoch) e1 (epoch_keeps a.view epoch) in let k2 = kept_by b new (born b.view child birth) e2 (learnt_keeps b.view child Birth birth) in record {
+-- what a step keeps, where the pass changes in nothing else
+stays_of : (old new : Known) (key : Option ℕ) → new ≡ stayed old new.view → Keeps old.view new.view → Stays old new key NoWord
+stays_of old new key is k = record { is = is; copies = λ z. k.copies; knows = λ q f x ne h. k.knows q f x h; reached = k.reached; present = k.present; lasting = k.lasting }
+
+stays_by : (old new : Known) (key : Option ℕ) (w : View) → Becomes old new w → known_as old w ≡ stayed old w → Keeps old.view w → Stays old new key NoWord
+stays_by old new key w e same k = stays_of old new key (e ∙ same ∙ ap (λ (x : Known). stayed old x.view) (sym e)) (kept_by old new w e k)
+
+stays_on : (a b c : Known) (key : Option ℕ) (changed : ℕ → Field → Type 0) → Stays a b key NoWord → Stays b c key changed → Stays a c key changed
+stays_on a b c key changed x y = record {
+  is = y.is ∙ ap (λ (k : Known). stayed k c.view) x.is;
+  copies = λ z. y.copies z ∙ x.copies z;
+  knows = λ q f n ne h. y.knows q f n ne (x.knows q f n (λ z. z) h);
+  reached = λ r. omega (arith, x.reached r, y.reached r);
+  present = λ e h. y.present e (x.present e h);
+  lasting = λ r f n h. y.lasting r f n (x.lasting r f n h);
+}
+
+pub looks : (rows : ℕ) (old a b new : Known) (key : Option ℕ) (parent : ℕ) (d : Side) (child epoch birth : ℕ) → IsWriting old.view → ((c : ℕ) × (c ≢ 0) × IsCopyPlace old.view key parent d c) → Finds rows old a parent d child → Becomes a b (epoch_noted a.view epoch) → Becomes b new (born b.view child birth) → ((e : ℕ) → Among e b.view.present → birth ≤ e) → Looks rows old new key parent d child epoch birth
+looks rows old a b new key parent d child epoch birth writing place f e1 e2 past =
+    let same = f.known place.0 (held_link old.view key parent d place.0 place.2).child_is in
+    let k0 = kept_by old a (read old.view parent (link_field d) child) f.step (read_keeps old.view parent (link_field d) child) in
+    let at_a = place_still old.view a.view key parent d child k0 (subst (IsCopyPlace old.view key parent d) (sym same) place.2) in
+    let now : Among epoch b.view.present = subst (λ (k : Known). Among epoch k.view.present) (sym e1) (epoch_now a.view.stage writing.0 writing.1 epoch a.view.present (ap (λ (k : Known). k.view.stage) f.step ∙ writing.2)) in
+    let k1 = kept_by a b (epoch_noted a.view epoch) e1 (epoch_keeps a.view epoch) in let k2 = kept_by b new (born b.view child birth) e2 (learnt_keeps b.view child Birth birth) in
+    let s0 = stays_by old a key (read old.view parent (link_field d) child) f.step refl (read_keeps old.view parent (link_field d) child) in
+    let s1 = stays_by a b key (epoch_noted a.view epoch) e1 refl (epoch_keeps a.view epoch) in
+    let s2 = stays_by b new key (born b.view child birth) e2 refl (learnt_keeps b.view child Birth birth) in record {
       works = works_on old a new [] (Epoch epoch ∷ []) (word_works old a parent (link_field d) child f.step) (works_on a b new (Epoch epoch ∷ []) [] (epoch_works a b epoch e1) (born_works b new child birth e2));
       now = k2.present epoch now;
       known = subst (λ (k : Known). IsKnown k.view.lasting child Birth birth) (sym e2) (inl (refl, refl, refl));
-      above = above_still b.view new.view key parent d child k2 (above_still a.view b.view key parent d child k1 f.above);
+      at = place_still b.view new.view key parent d child k2 (place_still a.view b.view key parent d child k1 at_a);
+      was = f.was;
       past = past epoch now;
+      stays = stays_on old a new key NoWord s0 (stays_on a b new key NoWord s1 s2);
+      low = f.low;
+      some_row = f.some_row;
+      reached = omega (arith, f.reached, k1.reached child, k2.reached child);
     }
 
-pub is_own : (old new : Known) (key parent : ℕ) (d : Side) (child epoch birth : ℕ) → Looks old new key parent d child epoch birth → epoch ≤ birth → IsOwn old new parent d child
-is_own old new key parent d child epoch birth l from = let past = l.past in let is : birth ≡ epoch = omega arith in record {
+is_own : (rows : ℕ) (old new : Known) (key : Option ℕ) (parent : ℕ) (d : Side) (child epoch birth : ℕ) → Looks rows old new key parent d child epoch birth → epoch ≤ birth → IsOwn old new parent d child
+is_own rows old new key parent d child epoch birth l from = let past = l.past in let is : birth ≡ epoch = omega arith in record {
   epoch = epoch;
   works = l.works;
   now = l.now;
   birth = subst (IsKnown new.view.lasting child Birth) is l.known;
-  child_is = l.above.child_is;
+  was = l.was;
+  child_is = (held_link new.view key parent d child l.at).child_is;
 }
 
-pub is_older : (old new : Known) (key parent : ℕ) (d : Side) (child epoch birth : ℕ) → Looks old new key parent d child epoch birth → birth < epoch → IsOlder new.view child
-is_older old new key parent d child epoch birth l less = record { birth = birth; is_birth = l.known; epoch = epoch; now = l.now; older = less }
+pub is_older : (rows : ℕ) (old new : Known) (key : Option ℕ) (parent : ℕ) (d : Side) (child epoch birth : ℕ) → Looks rows old new key parent d child epoch birth → birth < epoch → IsOlder new.view child
+is_older rows old new key parent d child epoch birth l less = record { birth = birth; is_birth = l.known; epoch = epoch; now = l.now; older = less }
 
 last_full : (rows : ℕ) (ns : List ℕ) → In (Next rows) (notes_of (ns ++ rows ∷ []))
 last_full rows [] = inl refl
 last_full rows (n ∷ ns) = inr (last_full rows ns)
 
-pub lacks : (rows : ℕ) (old mid new : Known) (key parent : ℕ) (d : Side) (child epoch birth : ℕ) → Looks old mid key parent d child epoch birth → birth < epoch → FoundFull rows mid new → Lacks rows old new parent d
+lacks : (rows : ℕ) (old mid new : Known) (key : Option ℕ) (parent : ℕ) (d : Side) (child epoch birth : ℕ) → Looks rows old mid key parent d child epoch birth → birth < epoch → FoundFull rows mid new → Lacks rows old new parent d
 lacks rows old mid new key parent d child epoch birth l less full =
     let e = full.2 in let more : List WordNote = notes_of (full.0 ++ rows ∷ []) in
     let after : Works mid new more = record {
       is = e ∙ ap (λ (k : Known). worked mid k.view) (sym e);
-      noted = record { notes = ap (λ (k : Known). k.view.notes) e; handed = ap (λ (k : Known). k.view.handed) e; epochs = ap (λ (k : Known). k.view.epochs) e };
+      noted = record { notes = ap (λ (k : Known). k.view.notes) e; handed = ap (λ (k : Known). k.view.handed) e; epochs = ap (λ (k : Known). k.view.epochs) e; worn = λ h. ap (λ (k : Known). k.view.worn) e ∙ h };
       sees = inl (ap (λ (k : Known). k.view.seen) e);
       kept = λ r. omega (arith, ap (λ (k : Known). times r k.view.reached) e);
       lasting = λ n f x h. subst (λ (k : Known). IsKnown k.view.lasting n f x) (sym e) h;
@@ -196,7 +234,7 @@ lacks rows old mid new key parent d child epoch birth l less full =
     } in record {
       child = child;
       older = record { birth = birth; is_birth = after.lasting child Birth birth l.known; epoch = epoch; now = after.present epoch l.now; older = less };
-      child_is = subst (λ (k : Known). IsKnown k.view.knows parent (link_field d) child) (sym e) l.above.child_is;
+      child_is = subst (λ (k : Known). IsKnown k.view.knows parent (link_field d) child) (sym e) (held_link mid.view key parent d child l.at).child_is;
       more = Epoch epoch ∷ more;
       works = works_on old mid new (Epoch epoch ∷ []) more l.works after;
       full = inr (last_full rows full.0);
@@ -205,19 +243,43 @@ lacks rows old mid new key parent d child epoch birth l less full =
 with_copy_on : (old mid new : Known) → mid ≡ with_copy old mid.view → new ≡ with_copy mid new.view → new ≡ with_copy old new.view
 with_copy_on old mid new a b = b ∙ ap (λ (k : Known). with_copy k new.view) a
 
+abbrev next_of : WordNote → ℕ
+next_of (Next n) = n
+next_of (Gate n) = 0
+next_of (LeftNote n) = 0
+next_of (Done n) = 0
+next_of (Epoch n) = 0
+next_of (BirthNote k b) = 0
+next_of Trouble = 0
+
+-- loads that each found a row left tell of no full table
+none_full : (rows : ℕ) (ns : List ℕ) → AllLeft rows ns → In (Next rows) (notes_of ns) → ⊥
+none_full rows [] a h = h
+none_full rows (n ∷ ns) a (inl e) = a.0 (sym (ap next_of e))
+none_full rows (n ∷ ns) a (inr h) = none_full rows ns a.1 h
+
+-- and neither does a note of the epoch
+pub epoch_not_full : (rows x : ℕ) (l : List WordNote) → (In (Next rows) l → ⊥) → In (Next rows) (Epoch x ∷ l) → ⊥
+epoch_not_full rows x l none (inl e) = let z : Next rows ≡ Epoch x = e in cc
+epoch_not_full rows x l none (inr h) = none h
+
 -- a row was drawn, filled and linked in the child's place
-pub is_copied : (rows : ℕ) (old a b c new : Known) (key parent : ℕ) (d : Side) (child epoch birth copy : ℕ) → Looks old a key parent d child epoch birth → birth < epoch → HasDrawn rows a b copy → Fills b c child copy → Becomes c new (copied c.view key parent (link_field d) copy) → IsCopied old new key parent d copy
-is_copied rows old a b c new key parent d child epoch birth copy l less drawn f e =
+is_copied : (rows : ℕ) (old a b c new : Known) (key : Option ℕ) (parent : ℕ) (d : Side) (child epoch birth copy : ℕ) → old.view.rows ≡ rows → Looks rows old a key parent d child epoch birth → birth < epoch → HasDrawn rows a b copy → Fills b c child copy → Becomes c new (copied c.view key parent (link_field d) copy) → IsCopiedAt old new key parent d copy
+is_copied rows old a b c new key parent d child epoch birth copy size l less drawn f e =
     let draw : Becomes a b (drew (all_noted a.view (notes_of drawn.0)) copy) = drawn.3 in
     let kb = kept_by a b (drew (all_noted a.view (notes_of drawn.0)) copy) draw (drew_keeps a.view (notes_of drawn.0) copy) in
     let first : a ≡ with_copy old a.view = l.works.is ∙ ap (λ (k : Known). with_copy old k.view) (sym l.works.is) in
     let second : b ≡ with_copy a b.view = draw ∙ ap (λ (k : Known). with_copy a k.view) (sym draw) in
     let third : c ≡ with_copy b c.view = f.is ∙ ap (λ (k : Known). with_copy b k.view) (sym f.is) in
     let last : new ≡ with_copy c new.view = e ∙ ap (λ (k : Known). with_copy c k.view) (sym e) in
-    let older_c : IsOlder c.view child = older_still b.view c.view child f.keeps (older_still a.view b.view child kb (is_older old a key parent d child epoch birth l less)) in record {
+    let older_c : IsOlder c.view child = older_still b.view c.view child f.keeps (older_still a.view b.view child kb (is_older rows old a key parent d child epoch birth l less)) in record {
       is = with_copy_on old c new (with_copy_on old b c (with_copy_on old a b first second) third) last;
       child = child;
+      was = l.was;
       older = subst (λ (k : Known). IsOlder k.view child) (sym e) (same_older c.view key parent (link_field d) copy child older_c);
+      filled = c.view;
+      holds = f.copy_is;
+      linked = ap (λ (k : Known). k.view) e;
       drawn = ap (λ (k : Known). k.view.drawn) e ∙ ap (λ (k : Known). k.view.drawn) f.is ∙ ap (λ (k : Known). k.view.drawn) draw ∙ ap (λ (k : Known). k.view.drawn ++ copy ∷ []) l.works.is;
       own = ap (λ (k : Known). k.view.own) e ∙ ap (λ (k : Known). removed copy k.view.own) f.is ∙ ap (λ (k : Known). removed copy k.view.own) draw ∙ ap (λ (k : Known). removed copy (copy ∷ k.view.own)) l.works.is;
       more = Epoch epoch ∷ notes_of drawn.0;
@@ -225,16 +287,18 @@ is_copied rows old a b c new key parent d child epoch birth copy l less drawn f 
         notes = ap (λ (k : Known). k.view.notes) e ∙ ap (λ (k : Known). k.view.notes) f.is ∙ ap (λ (k : Known). k.view.notes) draw;
         handed = ap (λ (k : Known). k.view.handed) e ∙ ap (λ (k : Known). k.view.handed) f.is ∙ ap (λ (k : Known). k.view.handed) draw;
         epochs = ap (λ (k : Known). k.view.epochs) e ∙ ap (λ (k : Known). k.view.epochs) f.is ∙ ap (λ (k : Known). k.view.epochs) draw;
+        worn = λ h. ap (λ (k : Known). k.view.worn) e ∙ f.keeps.worn (kb.worn h);
       });
+      left = epoch_not_full old.view.rows epoch (notes_of drawn.0) (none_full old.view.rows drawn.0 (subst (λ (n : ℕ). AllLeft n drawn.0) (sym size) drawn.1));
       sees = sees l.works.sees (ap (λ (k : Known). k.view.seen) e ∙ ap (λ (k : Known). k.view.seen) f.is ∙ ap (λ (k : Known). k.view.seen) draw);
       kept = λ r. omega (arith, l.works.kept r, kb.reached r, f.keeps.reached r, ap (λ (k : Known). times r k.view.reached) e);
       reached = subst (λ (k : Known). Among copy k.view.reached) (sym e) (omega (arith, one_of copy));
       present = λ x h. subst (λ (k : Known). Among x k.view.present) (sym e) (f.keeps.present x (kb.present x (l.works.present x h)));
       child_is = subst (λ (k : Known). IsKnown k.view.knows parent (link_field d) copy) (sym e) (inl (refl, refl, refl));
-      copies = ap (λ (k : Known). k.view.copies) e;
+      copies = ap (λ (k : Known). k.view.copies) e ∙ ap (λ (l : List ℕ). copies_for l key) (f.keeps.copies ∙ kb.copies ∙ ap (λ (k : Known). k.view.copies) l.works.is);
     }
   where
-    same_older : (v : View) (key parent : ℕ) (f : Field) (copy r : ℕ) → IsOlder v r → IsOlder (copied v key parent f copy) r
+    same_older : (v : View) (key : Option ℕ) (parent : ℕ) (f : Field) (copy r : ℕ) → IsOlder v r → IsOlder (copied v key parent f copy) r
     same_older v key parent f copy r h = record { birth = h.birth; is_birth = h.is_birth; epoch = h.epoch; now = h.now; older = h.older }
 
     sees : SeesMore old.view a.view → new.view.seen ≡ a.view.seen → SeesMore old.view new.view
@@ -243,3 +307,59 @@ is_copied rows old a b c new key parent d child epoch birth copy l less drawn f 
 
 pub drawn_keeps : (rows : ℕ) (old new : Known) (copy : ℕ) → HasDrawn rows old new copy → Keeps old.view new.view
 drawn_keeps rows old new copy d = kept_by old new (drew (all_noted old.view (notes_of d.0)) copy) d.3 (drew_keeps old.view (notes_of d.0) copy)
+
+-- what is known of other words stays where one was forgotten
+forgotten_else : (l : List Fact) (r : ℕ) (f : Field) (q : ℕ) (g : Field) (y : ℕ) → ((q ≡ r) × (g ≡ f) → ⊥) → IsKnown l q g y → IsKnown (forgotten l r f) q g y
+forgotten_else [] r f q g y ne h = h
+forgotten_else (x ∷ xs) r f q g y ne h = go (x.row == r) refl (same_field x.field f) refl h (λ k. forgotten_else xs r f q g y ne k)
+  where
+    go : (a : Bool) → (x.row == r) ≡ a → (b : Bool) → same_field x.field f ≡ b → ((x.row ≡ q) × (x.field ≡ g) × (x.word ≡ y)) ⊎ IsKnown xs q g y → (IsKnown xs q g y → IsKnown (forgotten xs r f) q g y) → IsKnown (cond (a && b) (forgotten xs r f) (x ∷ forgotten xs r f)) q g y
+    go true ea true eb (inl e) on = absurd (ne (sym e.0 ∙ eqb-true x.row r ea, sym e.1 ∙ one_place x.field f (eqb-true (place_of x.field) (place_of f) eb)))
+    go true ea true eb (inr k) on = on k
+    go true ea false eb (inl e) on = inl e
+    go true ea false eb (inr k) on = inr (on k)
+    go false ea b eb (inl e) on = inl e
+    go false ea b eb (inr k) on = inr (on k)
+
+stays_copied : (old new : Known) (key : Option ℕ) (parent : ℕ) (d : Side) (copy : ℕ) → Becomes old new (copied old.view key parent (link_field d) copy) → Stays old new key (λ q f. (q ≡ parent) × (f ≡ link_field d))
+stays_copied old new key parent d copy e = record {
+  is = e ∙ ap (λ (k : Known). stayed old k.view) (sym e);
+  copies = λ z. ap (λ (k : Known). k.view.copies) e ∙ ap (copies_for old.view.copies) z;
+  knows = λ q g y ne h. subst (λ (k : Known). IsKnown k.view.knows q g y) (sym e) (inr (forgotten_else old.view.knows parent (link_field d) q g y ne h));
+  reached = λ r. omega (arith, ap (λ (k : Known). times r k.view.reached) e);
+  present = λ x h. subst (λ (k : Known). Among x k.view.present) (sym e) h;
+  lasting = λ q g y h. subst (λ (k : Known). IsKnown k.view.lasting q g y) (sym e) h;
+}
+
+-- the child is of this epoch
+pub owns_own : (rows : ℕ) (old new : Known) (key : Option ℕ) (parent : ℕ) (d : Side) (child epoch birth : ℕ) → Looks rows old new key parent d child epoch birth → epoch ≤ birth → OwnsAt rows old new key parent d child
+owns_own rows old new key parent d child epoch birth l from = let s = l.stays in record {
+  owns = inl (is_own rows old new key parent d child epoch birth l from);
+  stays = record { is = s.is; copies = s.copies; knows = λ q f x ne h. s.knows q f x (λ z. z) h; reached = s.reached; present = s.present; lasting = s.lasting };
+  low = l.low;
+  is_row = l.some_row;
+  reached = l.reached;
+}
+
+-- a copy took its place
+pub owns_copy : (rows : ℕ) (old a b c new : Known) (key : Option ℕ) (parent : ℕ) (d : Side) (child epoch birth copy : ℕ) → old.view.rows ≡ rows → Looks rows old a key parent d child epoch birth → birth < epoch → HasDrawn rows a b copy → Fills b c child copy → Becomes c new (copied c.view key parent (link_field d) copy) → OwnsAt rows old new key parent d copy
+owns_copy rows old a b c new key parent d child epoch birth copy size l less drawn f e =
+    let w : View = drew (all_noted a.view (notes_of drawn.0)) copy in
+    let s1 = stays_by a b key w drawn.3 refl (drew_keeps a.view (notes_of drawn.0) copy) in
+    let s2 = stays_of b c key (f.is ∙ ap (λ (k : Known). stayed b k.view) (sym f.is)) f.keeps in
+    let link : ℕ → Field → Type 0 = λ (q : ℕ) (g : Field). (q ≡ parent) × (g ≡ link_field d) in
+    let is = is_copied rows old a b c new key parent d child epoch birth copy size l less drawn f e in record {
+      owns = inr is;
+      stays = stays_on old a new key link l.stays (stays_on a b new key link s1 (stays_on b c new key link s2 (stays_copied c new key parent d copy e)));
+      low = drawn.2.1;
+      is_row = λ z. omega (arith, drawn.2.0, z);
+      reached = is.reached;
+    }
+
+-- every row was handed out
+pub lacks_at : (rows found : ℕ) (old mid new : Known) (key : Option ℕ) (parent : ℕ) (d : Side) (child epoch birth : ℕ) → Looks rows old mid key parent d child epoch birth → birth < epoch → found ≡ rows → FoundFull rows mid new → LacksAt rows old new key parent d found
+lacks_at rows found old mid new key parent d child epoch birth l less all full = record {
+  all = all;
+  lacks = lacks rows old mid new key parent d child epoch birth l less full;
+  stays = stays_on old mid new key NoWord l.stays (stays_by mid new key (all_noted mid.view (notes_of (full.0 ++ rows ∷ []))) full.2 refl (noted_keeps mid.view (notes_of (full.0 ++ rows ∷ []))));
+}

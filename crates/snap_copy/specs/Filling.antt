@@ -1,5 +1,5 @@
 -- The work by which a row of the pass becomes a copy of a shared child.
-use Rattle.std.specs.Prelude.{◌≡◌, ◌≢◌, ◌≤◌, ℕ, false}
+use Rattle.std.specs.Prelude.{◌≡◌, ◌≢◌, ◌≤◌, ℕ, true, false}
 use Rattle.snap_search.specs.Walk.{KeepsReached}
 use Rattle.snap_search.specs.Work.{KeepsLasting, KeepsPresent}
 use Rattle.snap_stamp.specs.declared.layout.Field.{Field}
@@ -8,31 +8,35 @@ use Rattle.snap_steps.specs.Counting.{Among}
 use Rattle.snap_steps.specs.Facts.{IsKnown, same_field}
 use Rattle.snap_steps.specs.Seen.{Known, Becomes}
 use Rattle.snap_steps.specs.States.{link_field}
-use Rattle.snap_steps.specs.Steps.Copies.{IsAbove, HasWord, IsCopy}
+use Rattle.snap_steps.specs.Steps.Copies.{HasWord, IsCopy}
 use Rattle.snap_steps.specs.Steps.Fields.{read}
 use Rattle.snap_steps.specs.declared.view.View.{View}
 
 -- what the pass knew it still knows, and it holds the same rows, at the same place
 pub record Keeps (v w : View) : Type 0 where
+  pub stage : w.stage ≡ v.stage
   pub holds : w.holds ≡ v.holds
+  pub heights : w.heights ≡ v.heights
   pub place : w.place ≡ v.place
   pub copies : w.copies ≡ v.copies
   pub knows : (r : ℕ) (f : Field) (x : ℕ) → IsKnown v.knows r f x → IsKnown w.knows r f x
   pub reached : KeepsReached v w
   pub present : KeepsPresent v w
   pub lasting : KeepsLasting v w
+  pub worn : v.worn ≡ true → w.worn ≡ true
 
 -- the pass has loaded the link below the held row, and reached the child to which it leads
-pub record Finds (rows : ℕ) (old new : Known) (key parent : ℕ) (side : Side) (child : ℕ) : Type 0 where
+pub record Finds (rows : ℕ) (old new : Known) (parent : ℕ) (side : Side) (child : ℕ) : Type 0 where
   pub step : Becomes old new (read old.view parent (link_field side) child)
   pub some_row : child ≢ 0
   pub low : child ≤ rows
   pub reached : Among child new.view.reached
-  pub above : IsAbove new.view key parent side child
+  pub was : IsKnown old.view.knows parent (link_field side) child
+  pub known : (x : ℕ) → IsKnown old.view.knows parent (link_field side) x → child ≡ x
 
 -- the pass with other words in its own rows, and other words that it knows
 abbrev pub filled : Known → View → Known
-filled k w = record { table = k.table; view = record k.view { steps = w.steps; knows = w.knows; reached = w.reached; worn = w.worn; lasting = w.lasting; wrote = w.wrote } }
+filled k w = record { table = k.table; view = record k.view { steps = w.steps; knows = w.knows; reached = w.reached; worn = w.worn; refused = w.refused; lasting = w.lasting; wrote = w.wrote } }
 
 -- one field of the own row has the word of the child
 pub record CopiesWord (old new : Known) (child copy : ℕ) (f : Field) : Type 0 where

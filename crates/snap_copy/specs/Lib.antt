@@ -1,2 +1,4 @@
 pub mod Filling
+pub mod Mending
 pub mod Owning
+pub mod Lowering

@@ -1,15 +1,18 @@
 //! Lazy copies: a write that comes to a row of an earlier epoch puts a copy in its place, and clones keep the row.
 #![tactic(auto)]
 
-ghost use Rattle.std.specs.Prelude.{◌≡◌, ◌≢◌, ◌<◌, ◌≤◌, ℕ, false, MatchResult};
-ghost use Rattle.snap_copy.specs.Owning.{Owns, Lacks};
+ghost use Rattle.std.specs.Prelude.{◌≡◌, ◌≢◌, ◌<◌, ◌≤◌, ℕ, false, MatchResult, None, Some};
+ghost use Rattle.snap_copy.specs.Lowering.{OwnsLower, LacksRows};
+ghost use Rattle.snap_copy.specs.Owning.{Owns, OwnsAt, Lacks, LacksAt};
 ghost use Rattle.snap_copy.specs.Filling.{Finds, Fills, CopiesWord};
 ghost use Rattle.snap_rule.specs.declared.change.Doing.TheVariants.{Nothing};
 ghost use Rattle.snap_stamp.specs.declared.layout.Field.TheVariants.{Lock, Stamp};
 ghost use Rattle.snap_steps.specs.Counting.{Among};
+ghost use Rattle.snap_steps.specs.Facts.{IsBorn};
 ghost use Rattle.snap_steps.specs.Seen.{IsOf};
 ghost use Rattle.snap_steps.specs.States.{link_field};
 ghost use Rattle.snap_steps.specs.Steps.Copies.{IsOlder, IsAbove};
+ghost use Rattle.snap_steps.specs.Steps.Tilts.{IsCopyPlace, IsHeldLink, IsTilt, IsWriting};
 ghost use Rattle.snap_steps.specs.declared.view.Stage.TheVariants.{Writing};
 
 use snap_stamp::{Field, Key, RowNo, Side};
@@ -36,7 +39,48 @@ pub fn own_child<R: Wait>(
     requires place { (child : ℕ) × (child ≢ 0) × IsAbove pass.old.view key parent side child }
     ensures { MatchResult result (λ c. Owns rows.now.rows pass.old pass.new key parent side c) (λ f. (f.rows ≡ rows.now.rows) × Lacks rows.now.rows pass.old pass.new parent side) }
 {
-    let child = child_of(rows, pass, key, parent, side);
+    own_at(rows, rt, pass, Some(key), parent, side)
+}
+
+/// The same for a repair: the pass holds a row of which one side is higher by two at least, and the parent is that row
+/// and the side the higher one, or its child there and the side the other one. The write may have its entry, and no
+/// search is under way.
+pub fn own_lower<R: Wait>(
+    rows: &Rows,
+    rt: &R,
+    pass: &mut Pass,
+    parent: RowNo,
+    side: Side,
+) -> Result<RowNo, Full>
+    requires table { IsOf pass.old rows.now }
+    requires parent { parent ≤ rows.now.rows }
+    requires writing { IsWriting pass.old.view }
+    requires whole { pass.old.view.doing ≡ Nothing }
+    requires held { Among parent pass.old.view.holds }
+    requires live { (Among parent pass.old.view.reached) × IsBorn pass.old.view parent }
+    requires tilt { (upper : ℕ) × IsTilt pass.old.view upper parent side }
+    ensures { MatchResult result (λ c. OwnsLower rows.now.rows pass.old pass.new parent side c) (λ f. LacksRows rows.now.rows pass.old pass.new f.rows) }
+{
+    own_at(rows, rt, pass, None, parent, side)
+}
+
+// The place is that of the key, or without one that of a repair.
+fn own_at<R: Wait>(
+    rows: &Rows,
+    rt: &R,
+    pass: &mut Pass,
+    key: Option<Key>,
+    parent: RowNo,
+    side: Side,
+) -> Result<RowNo, Full>
+    requires table { IsOf pass.old rows.now }
+    requires parent { parent ≤ rows.now.rows }
+    requires writing { IsWriting pass.old.view }
+    requires whole { pass.old.view.doing ≡ Nothing }
+    requires place { (child : ℕ) × (child ≢ 0) × IsCopyPlace pass.old.view key parent side child }
+    ensures { MatchResult result (λ c. OwnsAt rows.now.rows pass.old pass.new key parent side c) (λ f. LacksAt rows.now.rows pass.old pass.new key parent side f.rows) }
+{
+    let child = child_of(rows, pass, parent, side);
     let epoch = load_epoch(rows, pass);
     let birth = load_birth(rows, pass, child);
     if birth >= epoch {
@@ -53,13 +97,12 @@ pub fn own_child<R: Wait>(
 }
 
 // The child, which the pass has then reached.
-fn child_of(rows: &Rows, pass: &mut Pass, key: Key, parent: RowNo, side: Side) -> RowNo
+fn child_of(rows: &Rows, pass: &mut Pass, parent: RowNo, side: Side) -> RowNo
     requires table { IsOf pass.old rows.now }
     requires parent { parent ≤ rows.now.rows }
-    requires place { (child : ℕ) × (child ≢ 0) × IsAbove pass.old.view key parent side child }
-    ensures { Finds rows.now.rows pass.old pass.new key parent side result }
+    requires place { (child : ℕ) × (child ≢ 0) × IsHeldLink pass.old.view parent side child }
+    ensures { Finds rows.now.rows pass.old pass.new parent side result }
 {
-    let _key = key;
     let word = load_word(rows, pass, parent, link_of(side));
     row_of(rows, word)
 }
@@ -71,6 +114,7 @@ fn fill(rows: &Rows, pass: &mut Pass, child: RowNo, copy: RowNo, epoch: u64)
     requires own { Among copy pass.old.view.own }
     requires older { IsOlder pass.old.view child }
     requires epoch { Among epoch pass.old.view.present }
+    requires whole { pass.old.view.doing ≡ Nothing }
     ensures { Fills pass.old pass.new child copy }
 {
     copy_word(rows, pass, child, copy, Field::Key);
@@ -87,6 +131,7 @@ fn copy_word(rows: &Rows, pass: &mut Pass, child: RowNo, copy: RowNo, field: Fie
     requires own { Among copy pass.old.view.own }
     requires older { IsOlder pass.old.view child }
     requires field { (field ≢ Lock) × (field ≢ Stamp) }
+    requires whole { pass.old.view.doing ≡ Nothing }
     ensures { CopiesWord pass.old pass.new child copy field }
 {
     let word = load_shared(rows, pass, child, field);

@@ -1,25 +1,12 @@
-use Rattle.std.proofs.Common.{inl, inr}
-use Rattle.snap_copy.proofs.Copying.{looks, is_own, is_older, lacks, is_copied, drawn_keeps}
-use Rattle.snap_copy.proofs.Keeping.{older_still}
+use Rattle.std.proofs.Common.{false}
+use Rattle.std.proofs.lemmas.Result.{MatchResult-weaker}
 use Rattle.snap_copy.proofs.own_child.Goals as goal
 
-pub returns-then-birth-epoch : goal.returns-then-birth-epoch
-returns-then-birth-epoch g c =
-    let l = looks c.args.rows.now.rows c.args.pass.now c.child_of-child.new.pass c.load_epoch-epoch.new.pass c.load_birth-birth.new.pass c.args.key c.args.parent c.args.side c.child_of-child.result c.load_epoch-epoch.result c.load_birth-birth.result c.requires.writing c.child_of-child.ensures c.load_epoch-epoch.ensures.pass c.load_birth-birth.ensures.pass c.load_birth-birth.ensures.past in
-    inl (is_own c.args.pass.now c.load_birth-birth.new.pass c.args.key c.args.parent c.args.side c.child_of-child.result c.load_epoch-epoch.result c.load_birth-birth.result l c.if-birth-epoch.true)
+pub own_at-requires-clause-writing : goal.own_at-requires-clause-writing
+own_at-requires-clause-writing g c = (false, false, c.requires.writing)
 
-pub link_copy-requires-clause-older : goal.link_copy-requires-clause-older
-link_copy-requires-clause-older g c =
-    let l = looks c.args.rows.now.rows c.args.pass.now c.child_of-child.new.pass c.load_epoch-epoch.new.pass c.load_birth-birth.new.pass c.args.key c.args.parent c.args.side c.child_of-child.result c.load_epoch-epoch.result c.load_birth-birth.result c.requires.writing c.child_of-child.ensures c.load_epoch-epoch.ensures.pass c.load_birth-birth.ensures.pass c.load_birth-birth.ensures.past in
-    let older = is_older c.args.pass.now c.load_birth-birth.new.pass c.args.key c.args.parent c.args.side c.child_of-child.result c.load_epoch-epoch.result c.load_birth-birth.result l c.if-birth-epoch.false in
-    older_still c.draw.new.pass.view c.fill.new.pass.view c.child_of-child.result c.fill.ensures.keeps (older_still c.load_birth-birth.new.pass.view c.draw.new.pass.view c.child_of-child.result (drawn_keeps c.args.rows.now.rows c.load_birth-birth.new.pass c.draw.new.pass c.in-Ok.copy c.in-Ok.ensures) older)
+pub own_at-requires-clause-place : goal.own_at-requires-clause-place
+own_at-requires-clause-place g c = let p = c.requires.place in (p.0, p.1, (c.requires.writing, p.2))
 
-pub returns-in-Ok : goal.returns-in-Ok
-returns-in-Ok g c =
-    let l = looks c.args.rows.now.rows c.args.pass.now c.child_of-child.new.pass c.load_epoch-epoch.new.pass c.load_birth-birth.new.pass c.args.key c.args.parent c.args.side c.child_of-child.result c.load_epoch-epoch.result c.load_birth-birth.result c.requires.writing c.child_of-child.ensures c.load_epoch-epoch.ensures.pass c.load_birth-birth.ensures.pass c.load_birth-birth.ensures.past in
-    inr (is_copied c.args.rows.now.rows c.args.pass.now c.load_birth-birth.new.pass c.draw.new.pass c.fill.new.pass c.link_copy.new.pass c.args.key c.args.parent c.args.side c.child_of-child.result c.load_epoch-epoch.result c.load_birth-birth.result c.in-Ok.copy l c.if-birth-epoch.false c.in-Ok.ensures c.fill.ensures c.link_copy.ensures)
-
-pub returns-in-Err : goal.returns-in-Err
-returns-in-Err g c =
-    let l = looks c.args.rows.now.rows c.args.pass.now c.child_of-child.new.pass c.load_epoch-epoch.new.pass c.load_birth-birth.new.pass c.args.key c.args.parent c.args.side c.child_of-child.result c.load_epoch-epoch.result c.load_birth-birth.result c.requires.writing c.child_of-child.ensures c.load_epoch-epoch.ensures.pass c.load_birth-birth.ensures.pass c.load_birth-birth.ensures.past in
-    (c.in-Err.ensures.0, lacks c.args.rows.now.rows c.args.pass.now c.load_birth-birth.new.pass c.draw.new.pass c.args.key c.args.parent c.args.side c.child_of-child.result c.load_epoch-epoch.result c.load_birth-birth.result l c.if-birth-epoch.false c.in-Err.ensures.1)
+pub returns : goal.returns
+returns g c = MatchResult-weaker c.own_at.result c.own_at.ensures (λ _ o. o.owns) (λ _ l. (l.all, l.lacks))

@@ -1,0 +1,56 @@
+use Rattle.std.proofs.Common.{◌∙◌, sym, subst, rules, inl}
+use Rattle.snap_repair.proofs.Inner.{aims_mends, stops_none, stops_worn, tries_after, worn_then}
+use Rattle.snap_repair.proofs.Lowering.{child_edge, higher_by, leans_looks}
+use Rattle.snap_repair.proofs.Mending.{edge_looks, grip_looks, looks_on, mends_on}
+use Rattle.snap_repair.specs.Answers.{HasLastStamp}
+use Rattle.snap_repair.specs.Lowering.{HasChild, IsHigher, Leans}
+use Rattle.snap_shape.specs.Grips.{IsTurning}
+use Rattle.snap_shape.specs.declared.grip.Turn.{Turn}
+use Rattle.snap_stamp.specs.Sides.{other}
+use Rattle.snap_repair.proofs.tilting.at_child.Goals as goal
+
+pub returns-then-not-is_settled : goal.returns-then-not-is_settled
+returns-then-not-is_settled g c =
+    let a = c.args.pass.now in let b = c.grip_of.new.pass in let d = c.look_at-look.new.pass in let s = looks_on a b d c.grip_of.ensures.looks c.look_at-look.ensures.looks in let e = c.aim.new.pass in
+    let m = aims_mends d e c.args.child c.in-Some.lower.key c.aim.ensures in stops_none c.args.rows.now.rows a e (mends_on a d e s.0.mends m.0) (m.1 ∙ s.1)
+
+pub tilt_inner-requires-clause-turn : goal.tilt_inner-requires-clause-turn
+tilt_inner-requires-clause-turn g c =
+    let a = c.args.pass.now in let b = c.grip_of.new.pass in let d = c.look_at-look.new.pass in let s = looks_on a b d c.grip_of.ensures.looks c.look_at-look.ensures.looks in
+    let up = edge_looks a d c.args.edge.now.parent c.args.edge.now.child c.args.edge.now.side s c.requires.edge in
+    let low = child_edge a b d c.args.edge.now.child c.args.higher c.args.child c.in-Some.lower s c.requires.edge.below c.requires.edge.is_row c.requires.leads (grip_looks b d c.in-Some.lower c.look_at-look.ensures.looks c.in-Some.ensures.grip.1) c.in-Some.ensures.grip.0 c.requires.child.0 c.requires.child.1 in
+    subst (IsTurning d.view) (sym c.turn_of-turn.ensures) (record { upper = up; lower = low; apart = λ z. c.requires.child.2 (sym c.in-Some.ensures.grip.0 ∙ sym z) })
+
+pub tilt_inner-requires-clause-leans : goal.tilt_inner-requires-clause-leans
+tilt_inner-requires-clause-leans g c =
+    let a = c.args.pass.now in let b = c.grip_of.new.pass in let d = c.look_at-look.new.pass in let s = looks_on a b d c.grip_of.ensures.looks c.look_at-look.ensures.looks in
+    subst (λ (t : Turn). Leans d.view t.row.row t.side) (sym c.turn_of-turn.ensures) (leans_looks a d c.args.edge.now.child.row c.args.higher s c.requires.leans)
+
+pub tilt_inner-requires-clause-inner : goal.tilt_inner-requires-clause-inner
+tilt_inner-requires-clause-inner g c =
+    let d = c.look_at-look.new.pass in
+    subst (λ (t : Turn). IsHigher d.view t.raised.row (other t.side) × HasChild d.view t.raised.row (other t.side)) (sym c.turn_of-turn.ensures) (higher_by c.args.rows.now.rows d.view c.in-Some.lower.row c.look_at-look.result c.args.higher c.look_at-look.ensures.look (search rules))
+
+pub returns-then-inner-outer : goal.returns-then-inner-outer
+returns-then-inner-outer g c =
+    let a = c.args.pass.now in let b = c.grip_of.new.pass in let d = c.look_at-look.new.pass in let s = looks_on a b d c.grip_of.ensures.looks c.look_at-look.ensures.looks in
+    tries_after c.args.rows.now.rows a d c.tilt_inner.new.pass c.tilt_inner.result s.0.mends s.1 c.tilt_inner.ensures
+
+pub turn_row-requires-clause-turn : goal.turn_row-requires-clause-turn
+turn_row-requires-clause-turn g c =
+    let a = c.args.pass.now in let b = c.grip_of.new.pass in let d = c.look_at-look.new.pass in let s = looks_on a b d c.grip_of.ensures.looks c.look_at-look.ensures.looks in
+    let up = edge_looks a d c.args.edge.now.parent c.args.edge.now.child c.args.edge.now.side s c.requires.edge in
+    let low = child_edge a b d c.args.edge.now.child c.args.higher c.args.child c.in-Some.lower s c.requires.edge.below c.requires.edge.is_row c.requires.leads (grip_looks b d c.in-Some.lower c.look_at-look.ensures.looks c.in-Some.ensures.grip.1) c.in-Some.ensures.grip.0 c.requires.child.0 c.requires.child.1 in
+    subst (IsTurning d.view) (sym c.turn_of-turn.ensures) (record { upper = up; lower = low; apart = λ z. c.requires.child.2 (sym c.in-Some.ensures.grip.0 ∙ sym z) })
+
+pub returns-then-turn_row : goal.returns-then-turn_row
+returns-then-turn_row g c =
+    let a = c.args.pass.now in let b = c.grip_of.new.pass in let d = c.look_at-look.new.pass in let s = looks_on a b d c.grip_of.ensures.looks c.look_at-look.ensures.looks in let e = c.turn_row.new.pass in let k = c.turn_row.ensures in
+    stops_none c.args.rows.now.rows a e (mends_on a d e s.0.mends k.mends) (k.holds ∙ s.1)
+
+pub returns-else-turn_row : goal.returns-else-turn_row
+returns-else-turn_row g c =
+    let a = c.args.pass.now in let b = c.grip_of.new.pass in let d = c.look_at-look.new.pass in let s = looks_on a b d c.grip_of.ensures.looks c.look_at-look.ensures.looks in let e = c.turn_row.new.pass in let k = c.turn_row.ensures in
+    let n = c.args.edge.now.child.row in
+    let last = subst (λ (t : Turn). HasLastStamp e.view t.row.row) c.turn_of-turn.ensures (k.worn c.if-turn_row.false) in
+    stops_worn c.args.rows.now.rows a e c.args.edge.now.child.row (mends_on a d e s.0.mends k.mends) (k.holds ∙ s.1) (worn_then a d e n s.0.mends (inl (c.args.higher, leans_looks a d n c.args.higher s c.requires.leans)) k.mends last)

@@ -1,0 +1,14 @@
+//! Repair of balance after a write: routing rows are unlinked, rows are rotated, and heights set right, from the
+//! place of the write upwards, until nothing is owed.
+#![tactic(auto)]
+
+mod answer;
+mod held;
+mod look;
+mod repairing;
+mod settling;
+mod tilting;
+
+pub use answer::Repaired;
+pub use look::Look;
+pub use repairing::repair;

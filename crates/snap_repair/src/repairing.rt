@@ -1,0 +1,145 @@
+//! The loop of repairs, and the locks of a row and its parent.
+//!
+//! The parent is locked first, and the row only once the parent is known to lead to it: so who waits for a lock holds
+//! locks above it alone.
+ghost use Rattle.std.specs.Prelude.{◌≡◌, ◌≢◌, ◌≤◌, [], ◌∷◌, Some, None};
+ghost use Rattle.snap_repair.specs.Answers.{IsMending, Repairs, Tries};
+ghost use Rattle.snap_search.specs.Endings.{EndsOn};
+ghost use Rattle.snap_shape.specs.Grips.{HasGrip, Leads};
+ghost use Rattle.snap_steps.specs.Seen.{IsOf};
+
+use crate::answer::Repaired;
+use crate::held::{end_at_top, grip_of, leads_to, may_aim};
+use crate::settling::settle;
+use snap_locks::{lock, unlock};
+use snap_search::{Ending, find_to_repair};
+use snap_shape::{Edge, Grip};
+use snap_stamp::Key;
+use snap_steps::{Pass, Rows, aim};
+use std::sync::Wait;
+
+/// Repairs what the pass owes. `Done`: it owes nothing. Else it says why rows are left unsettled, for good: `RowsOut`
+/// exactly where a copy of this call found that every row was handed out, and `StampOut` where this call found the stamp
+/// of a row that it held, and was to lower, at the greatest count. No entry is made, each row that was drawn is linked,
+/// and no row is held afterwards.
+pub fn repair<R: Wait>(rows: &Rows, rt: &R, pass: &mut Pass) -> Repaired
+    requires table { IsOf pass.old rows.now }
+    requires mending { IsMending pass.old.view }
+    requires free { pass.old.view.holds ≡ [] }
+    ensures { Repairs rows.now.rows pass.old pass.new result }
+{
+    for _ in rt.forever() {
+        let Some(key) = pass.to_do() else {
+            return Repaired::Done;
+        };
+        if let Some(why) = try_repair(rows, rt, pass, key) {
+            return why;
+        }
+    }
+    unreachable!()
+}
+
+// One turn: the last row of this epoch on the way of the to-do key is repaired, or the way is looked for again.
+fn try_repair<R: Wait>(rows: &Rows, rt: &R, pass: &mut Pass, key: Key) -> Option<Repaired>
+    requires table { IsOf pass.old rows.now }
+    requires mending { IsMending pass.old.view }
+    requires free { pass.old.view.holds ≡ [] }
+    requires to_do { pass.old.view.debt.to_do ≡ Some key }
+    ensures { Tries rows.now.rows pass.old pass.new result }
+{
+    let spot = find_to_repair(rows, rt, pass, key);
+    let row = spot.row;
+    if row.is_none() {
+        end_at_top(rows, rt, pass, key, &spot);
+        return None;
+    }
+    take_rows(rows, rt, pass, key, &spot)
+}
+
+// Locks the row above, and the row where that leads to it.
+fn take_rows<R: Wait>(
+    rows: &Rows,
+    rt: &R,
+    pass: &mut Pass,
+    key: Key,
+    spot: &Ending,
+) -> Option<Repaired>
+    requires table { IsOf pass.old rows.now }
+    requires mending { IsMending pass.old.view }
+    requires free { pass.old.view.holds ≡ [] }
+    requires to_do { pass.old.view.debt.to_do ≡ Some key }
+    requires ends { EndsOn rows.now.rows pass.old.view key spot.now }
+    requires row { spot.now.row ≢ 0 }
+    ensures { Tries rows.now.rows pass.old pass.new result }
+{
+    let above = spot.above;
+    lock(rows, rt, pass, above);
+    let why = at_parent(rows, rt, pass, key, spot);
+    unlock(rows, pass, above);
+    why
+}
+
+fn at_parent<R: Wait>(
+    rows: &Rows,
+    rt: &R,
+    pass: &mut Pass,
+    key: Key,
+    spot: &Ending,
+) -> Option<Repaired>
+    requires table { IsOf pass.old rows.now }
+    requires mending { IsMending pass.old.view }
+    requires held { pass.old.view.holds ≡ spot.now.above ∷ [] }
+    requires to_do { pass.old.view.debt.to_do ≡ Some key }
+    requires ends { EndsOn rows.now.rows pass.old.view key spot.now }
+    requires row { spot.now.row ≢ 0 }
+    ensures { Tries rows.now.rows pass.old pass.new result }
+{
+    let (above, side, row) = (spot.above, spot.above_side, spot.row);
+    if row == above {
+        return None;
+    }
+    let Some(parent) = grip_of(rows, pass, above) else {
+        return None;
+    };
+    if !leads_to(rows, pass, &parent, side, row) {
+        return None;
+    }
+    lock(rows, rt, pass, row);
+    let why = at_row(rows, rt, pass, key, spot, &parent);
+    unlock(rows, pass, row);
+    why
+}
+
+fn at_row<R: Wait>(
+    rows: &Rows,
+    rt: &R,
+    pass: &mut Pass,
+    key: Key,
+    spot: &Ending,
+    parent: &Grip,
+) -> Option<Repaired>
+    requires table { IsOf pass.old rows.now }
+    requires mending { IsMending pass.old.view }
+    requires held { pass.old.view.holds ≡ spot.now.row ∷ spot.now.above ∷ [] }
+    requires to_do { pass.old.view.debt.to_do ≡ Some key }
+    requires ends { EndsOn rows.now.rows pass.old.view key spot.now }
+    requires row { (spot.now.row ≢ 0) × (spot.now.row ≢ spot.now.above) }
+    requires parent { (parent.now.row ≡ spot.now.above) × HasGrip pass.old.view parent.now × Leads pass.old.view spot.now.above spot.now.above_side spot.now.row }
+    ensures { Tries rows.now.rows pass.old pass.new result }
+{
+    let (number, side) = (spot.row, spot.above_side);
+    let Some(row) = grip_of(rows, pass, number) else {
+        return None;
+    };
+    let row_key = row.key;
+    if !may_aim(rows, pass, key, spot, &row) {
+        return None;
+    }
+    aim(rows, pass, number, row_key);
+    let edge = Edge {
+        parent: *parent,
+        side,
+        child: row,
+    };
+    settle(rows, rt, pass, &edge)
+}

@@ -1,0 +1,254 @@
+//! Rotations at a row of which one side is higher by two at least.
+//!
+//! A row is locked only while the row above it is held, so locks are taken downwards alone.
+ghost use Rattle.std.specs.Prelude.{◌≡◌, ◌≢◌, ◌≤◌, [], ◌∷◌, Some, IsTrue};
+ghost use Rattle.snap_repair.specs.Answers.{IsMending, Tries, Turns};
+ghost use Rattle.snap_repair.specs.Lowering.{HasChild, IsHigher, Leans};
+ghost use Rattle.snap_repair.specs.Raising.{Lifts, TurnsNear};
+ghost use Rattle.snap_shape.specs.Grips.{AreWithin, IsEdge, IsTurning, IsWithin, Leads, edge_at};
+ghost use Rattle.snap_stamp.specs.Sides.{other};
+ghost use Rattle.snap_steps.specs.Counting.{Among};
+ghost use Rattle.snap_steps.specs.Seen.{IsOf};
+
+use crate::answer::Repaired;
+use crate::held::{grip_of, is_worn_out, look_at};
+use crate::look::{height_at, is_routing, is_settled, lean, only_child};
+use crate::settling::{lift, set_height};
+use snap_copy::own_lower;
+use snap_locks::{lock, unlock};
+use snap_shape::{Edge, Grip, Turn, rotate, turn_of, unlink_child};
+use snap_stamp::{Key, RowNo, Side};
+use snap_steps::{Pass, Rows, aim};
+use std::sync::Wait;
+
+/// Turns a held row that leans: first its higher child is made one of this epoch and locked.
+pub fn tilt<R: Wait>(
+    rows: &Rows,
+    rt: &R,
+    pass: &mut Pass,
+    edge: &Edge,
+    higher: Side,
+) -> Option<Repaired>
+    requires table { IsOf pass.old rows.now }
+    requires mending { IsMending pass.old.view }
+    requires rows { IsWithin rows.now.rows edge.now }
+    requires edge { IsEdge pass.old.view edge.now }
+    requires two { pass.old.view.holds ≡ edge.now.child.row ∷ edge.now.parent.row ∷ [] }
+    requires leans { Leans pass.old.view edge.now.child.row higher }
+    requires child { HasChild pass.old.view edge.now.child.row higher }
+    requires to_do { pass.old.view.debt.to_do ≡ Some edge.now.child.key }
+    ensures { Tries rows.now.rows pass.old pass.new result }
+{
+    let (upper, row) = (edge.parent.row, edge.child.row);
+    let child = match own_lower(rows, rt, pass, row, higher) {
+        Ok(child) => child,
+        Err(full) => return Some(Repaired::RowsOut { rows: full.rows }),
+    };
+    if child == row || child == upper {
+        return None;
+    }
+    lock(rows, rt, pass, child);
+    let why = at_child(rows, rt, pass, edge, higher, child);
+    unlock(rows, pass, child);
+    why
+}
+
+// The child is held: where it is settled the row is turned, and else it is repaired first.
+fn at_child<R: Wait>(
+    rows: &Rows,
+    rt: &R,
+    pass: &mut Pass,
+    edge: &Edge,
+    higher: Side,
+    child: RowNo,
+) -> Option<Repaired>
+    requires table { IsOf pass.old rows.now }
+    requires mending { IsMending pass.old.view }
+    requires rows { IsWithin rows.now.rows edge.now × (child ≤ rows.now.rows) }
+    requires edge { IsEdge pass.old.view edge.now }
+    requires three { pass.old.view.holds ≡ child ∷ edge.now.child.row ∷ edge.now.parent.row ∷ [] }
+    requires child { (child ≢ 0) × (child ≢ edge.now.child.row) × (child ≢ edge.now.parent.row) × Among child pass.old.view.reached }
+    requires leads { Leads pass.old.view edge.now.child.row higher child }
+    requires leans { Leans pass.old.view edge.now.child.row higher }
+    requires to_do { pass.old.view.debt.to_do ≡ Some edge.now.child.key }
+    ensures { Tries rows.now.rows pass.old pass.new result }
+{
+    let (row, key) = (edge.child.row, edge.child.key);
+    let Some(lower) = grip_of(rows, pass, child) else {
+        return None;
+    };
+    let lower_key = lower.key;
+    let look = look_at(rows, pass, &lower);
+    if !is_settled(&look) {
+        aim(rows, pass, child, lower_key);
+        return None;
+    }
+    let turn = turn_of(edge, higher, &lower);
+    let inner = height_at(&look, higher.other());
+    let outer = height_at(&look, higher);
+    if inner > outer {
+        return tilt_inner(rows, rt, pass, &turn);
+    }
+    if turn_row(rows, pass, &turn, key) {
+        None
+    } else {
+        Some(Repaired::StampOut { row })
+    }
+}
+
+// The inner grandchild is higher: it is made one of this epoch and locked.
+fn tilt_inner<R: Wait>(rows: &Rows, rt: &R, pass: &mut Pass, turn: &Turn) -> Option<Repaired>
+    requires table { IsOf pass.old rows.now }
+    requires mending { IsMending pass.old.view }
+    requires rows { AreWithin rows.now.rows turn.now }
+    requires turn { IsTurning pass.old.view turn.now }
+    requires three { pass.old.view.holds ≡ turn.now.raised.row ∷ turn.now.row.row ∷ turn.now.parent.row ∷ [] }
+    requires leans { Leans pass.old.view turn.now.row.row turn.now.side }
+    requires inner { IsHigher pass.old.view turn.now.raised.row (other turn.now.side) × HasChild pass.old.view turn.now.raised.row (other turn.now.side) }
+    requires to_do { pass.old.view.debt.to_do ≡ Some turn.now.row.key }
+    ensures { Tries rows.now.rows pass.old pass.new result }
+{
+    let inward = turn.side.other();
+    let (upper, row, lower) = (turn.parent.row, turn.row.row, turn.raised.row);
+    let inner = match own_lower(rows, rt, pass, lower, inward) {
+        Ok(inner) => inner,
+        Err(full) => return Some(Repaired::RowsOut { rows: full.rows }),
+    };
+    if inner == lower || inner == row || inner == upper {
+        return None;
+    }
+    lock(rows, rt, pass, inner);
+    let why = at_inner(rows, pass, turn, inner);
+    unlock(rows, pass, inner);
+    why
+}
+
+// The inner grandchild is held: where it is settled both rows are turned, and else it is repaired first.
+fn at_inner(rows: &Rows, pass: &mut Pass, turn: &Turn, inner: RowNo) -> Option<Repaired>
+    requires table { IsOf pass.old rows.now }
+    requires mending { IsMending pass.old.view }
+    requires rows { AreWithin rows.now.rows turn.now × (inner ≤ rows.now.rows) }
+    requires turn { IsTurning pass.old.view turn.now }
+    requires held { Among inner pass.old.view.holds }
+    requires leans { Leans pass.old.view turn.now.row.row turn.now.side }
+    requires higher { IsHigher pass.old.view turn.now.raised.row (other turn.now.side) }
+    requires inner { (inner ≢ 0) × (inner ≢ turn.now.raised.row) × (inner ≢ turn.now.row.row) × (inner ≢ turn.now.parent.row) × Among inner pass.old.view.reached }
+    requires leads { Leads pass.old.view turn.now.raised.row (other turn.now.side) inner }
+    requires to_do { pass.old.view.debt.to_do ≡ Some turn.now.row.key }
+    ensures { Tries rows.now.rows pass.old pass.new result }
+{
+    let (lower, lower_key) = (turn.raised.row, turn.raised.key);
+    let Some(raised) = grip_of(rows, pass, inner) else {
+        return None;
+    };
+    let raised_key = raised.key;
+    let look = look_at(rows, pass, &raised);
+    if !is_settled(&look) {
+        aim(rows, pass, lower, lower_key);
+        aim(rows, pass, inner, raised_key);
+        return None;
+    }
+    turn_twice(rows, pass, turn, &raised)
+}
+
+// Two rotations: the child is lowered below the inner grandchild, and then the row.
+fn turn_twice(rows: &Rows, pass: &mut Pass, turn: &Turn, raised: &Grip) -> Option<Repaired>
+    requires table { IsOf pass.old rows.now }
+    requires mending { IsMending pass.old.view }
+    requires rows { AreWithin rows.now.rows turn.now × (raised.now.row ≤ rows.now.rows) }
+    requires turn { IsTurning pass.old.view turn.now }
+    requires inner { IsEdge pass.old.view (edge_at turn.now.raised (other turn.now.side) raised.now) }
+    requires apart { (turn.now.row.row ≢ raised.now.row) × (turn.now.parent.row ≢ raised.now.row) }
+    requires leans { Leans pass.old.view turn.now.row.row turn.now.side }
+    requires higher { IsHigher pass.old.view turn.now.raised.row (other turn.now.side) }
+    requires to_do { pass.old.view.debt.to_do ≡ Some turn.now.row.key }
+    ensures { Tries rows.now.rows pass.old pass.new result }
+{
+    let (row, lower, lower_key) = (turn.row.row, turn.raised.row, turn.raised.key);
+    let (lowest, raised_key) = (turn.raised, raised.key);
+    if is_worn_out(rows, pass, &lowest) {
+        return Some(Repaired::StampOut { row: lower });
+    }
+    let edge = Edge {
+        parent: turn.row,
+        side: turn.side,
+        child: turn.raised,
+    };
+    let first = turn_of(&edge, turn.side.other(), raised);
+    let lowered = rotate(rows, pass, &first, lower_key);
+    let below = Edge {
+        parent: *raised,
+        side: turn.side,
+        child: lowered,
+    };
+    if !drop_lowered(rows, pass, &below) {
+        return None;
+    }
+    let above = Edge {
+        parent: turn.parent,
+        side: turn.parent_side,
+        child: turn.row,
+    };
+    let second = turn_of(&above, turn.side, raised);
+    if turn_row(rows, pass, &second, raised_key) {
+        None
+    } else {
+        Some(Repaired::StampOut { row })
+    }
+}
+
+// Of the row that the first of two rotations has lowered: it leaves the tree, or gets its height, and the to-do key goes
+// up to the row above it. Where it leans, which it does not by the heights that were loaded before, it is left as it is.
+fn drop_lowered(rows: &Rows, pass: &mut Pass, edge: &Edge) -> bool
+    requires table { IsOf pass.old rows.now }
+    requires mending { IsMending pass.old.view }
+    requires rows { IsWithin rows.now.rows edge.now }
+    requires parent { edge.now.parent.row ≢ 0 }
+    requires edge { IsEdge pass.old.view edge.now }
+    requires to_do { pass.old.view.debt.to_do ≡ Some edge.now.child.key }
+    ensures keeps { Lifts pass.old pass.new edge.now.parent edge.now.child }
+    ensures to_do { IsTrue result → pass.new.view.debt.to_do ≡ Some edge.now.parent.key }
+{
+    let row = edge.child;
+    let look = look_at(rows, pass, &row);
+    if is_routing(&look) {
+        let only = only_child(&look);
+        unlink_child(rows, pass, edge, only);
+        return true;
+    }
+    if lean(&look).is_some() {
+        return false;
+    }
+    lift(rows, pass, edge, &look);
+    true
+}
+
+// Lowers a held row below its child, and sets the heights of both. Where the row's stamp is at its greatest count, it
+// does neither.
+fn turn_row(rows: &Rows, pass: &mut Pass, turn: &Turn, key: Key) -> bool
+    requires table { IsOf pass.old rows.now }
+    requires mending { IsMending pass.old.view }
+    requires rows { AreWithin rows.now.rows turn.now }
+    requires turn { IsTurning pass.old.view turn.now }
+    requires aims { TurnsNear pass.old.view turn.now.parent.row turn.now.row.row turn.now.raised.row key }
+    ensures { Turns pass.old pass.new turn.now.row result }
+{
+    let row = turn.row;
+    if is_worn_out(rows, pass, &row) {
+        return false;
+    }
+    let lowered = rotate(rows, pass, turn, key);
+    let below = Edge {
+        parent: turn.raised,
+        side: turn.side.other(),
+        child: lowered,
+    };
+    set_height(rows, pass, &below);
+    let above = Edge {
+        parent: turn.parent,
+        side: turn.parent_side,
+        child: turn.raised,
+    };
+    set_height(rows, pass, &above);
+    true
+}

@@ -1,0 +1,47 @@
+-- What an unlinking and a rotation leave of what their pass knows. The map stays as it is.
+use Rattle.std.specs.Prelude.{◌≡◌, ◌≢◌, ◌+◌, ◌≤◌, ℕ, Some, true}
+use Rattle.snap_rule.specs.declared.change.Doing.TheVariants.{Nothing}
+use Rattle.snap_shape.specs.Grips.{HasGrip, Leads}
+use Rattle.snap_shape.specs.declared.grip.Edge.{Edge}
+use Rattle.snap_shape.specs.declared.grip.Grip.{Grip}
+use Rattle.snap_shape.specs.declared.grip.Turn.{Turn}
+use Rattle.snap_stamp.specs.Sides.{other}
+use Rattle.snap_stamp.specs.declared.layout.Field.{Field}
+use Rattle.snap_steps.specs.Counting.{times}
+use Rattle.snap_steps.specs.Facts.{IsKnown}
+use Rattle.snap_steps.specs.Seen.{Known}
+use Rattle.snap_steps.specs.Steps.Debts.{key_at}
+use Rattle.snap_steps.specs.Steps.Settling.{IsNoted}
+use Rattle.snap_steps.specs.declared.view.View.{View}
+
+-- the pass with what another view has of such a change: its steps, what it knows, and its debt
+abbrev pub shaped : Known → View → Known
+shaped k w = record { table = k.table; view = record k.view { steps = w.steps; doing = w.doing; knows = w.knows; heights = w.heights; reached = w.reached; worn = w.worn; refused = w.refused; debt = w.debt } }
+
+-- what a change at these rows leaves: no more is held, and what was known of other rows, and of the key and the stamp of any row but the changed one, still is
+pub record Keeps (old new : Known) (upper changed lower : ℕ) : Type 0 where
+  pub is : new ≡ shaped old new.view
+  pub reached : (r : ℕ) → times r old.view.reached ≤ times r new.view.reached
+  pub whole : new.view.doing ≡ Nothing
+  pub worn : old.view.worn ≡ true → new.view.worn ≡ true
+  pub others : (q : ℕ) (f : Field) (x : ℕ) → q ≢ upper → q ≢ changed → q ≢ lower → IsKnown old.view.knows q f x → IsKnown new.view.knows q f x
+  pub grips : (g : Grip) → g.row ≢ changed → HasGrip old.view g → HasGrip new.view g
+
+-- the child has left: the parent leads to its one child, and the to-do key is the parent's
+pub record Unlinks (old new : Known) (e : Edge) (only : ℕ) : Type 0 where
+  pub keeps : Keeps old new e.parent.row e.child.row e.child.row
+  pub leads : Leads new.view e.parent.row e.side only
+  pub to_do : new.view.debt.to_do ≡ key_at e.parent.row e.parent.key
+
+-- the row with its next count
+abbrev pub later : Grip → Grip
+later g = record g { stamp = g.stamp + 4 }
+
+-- the row went down, and its child on the side came up in its place
+pub record Rotates (old new : Known) (t : Turn) : Type 0 where
+  pub keeps : Keeps old new t.parent.row t.row.row t.raised.row
+  pub lowered : HasGrip new.view (later t.row)
+  pub above : Leads new.view t.parent.row t.parent_side t.raised.row
+  pub below : Leads new.view t.raised.row (other t.side) t.row.row
+  pub to_do : new.view.debt.to_do ≡ Some t.row.key
+  pub noted : t.parent.row ≢ 0 → IsNoted new.view t.parent.row

@@ -1,0 +1,144 @@
+//! Changes of a tree's shape by which its map stays: a routing row is unlinked, and a row is lowered below its child.
+//!
+//! Each is a change of several steps, which is whole again when the call returns. Every row that it touches is held.
+#![tactic(auto)]
+
+ghost use Rattle.std.specs.Prelude.{◌≡◌, ◌≢◌, ◌≤◌, ◌<◌};
+ghost use Rattle.snap_rule.specs.declared.change.Doing.TheVariants.{Nothing};
+ghost use Rattle.snap_shape.specs.Grips.{AreWithin, HasGrip, IsEdge, IsTurning, IsWithin, Leads, turn_below};
+ghost use Rattle.snap_shape.specs.Shapes.{Rotates, Unlinks, later};
+ghost use Rattle.snap_stamp.specs.Stamps.{count_of, last_count};
+ghost use Rattle.snap_stamp.specs.declared.side.Side.TheVariants.{Left, Right};
+ghost use Rattle.snap_steps.specs.Counting.{Among};
+ghost use Rattle.snap_steps.specs.Seen.{IsOf, Becomes};
+ghost use Rattle.snap_steps.specs.States.{link_field};
+ghost use Rattle.snap_steps.specs.Steps.Changes.{TurnsFor};
+ghost use Rattle.snap_steps.specs.Steps.Fields.{read};
+ghost use Rattle.snap_steps.specs.Steps.Unlinking.{AimsNear, IsRouting};
+
+mod grip;
+
+pub use grip::{Edge, Grip, Turn, turn_of};
+use snap_stamp::{Field, Key, RowNo, Side};
+use snap_steps::{
+    Pass, Rows, clear_shrinking, link_lowered, link_parent, link_raised, load_word, mark_shrinking,
+    mark_unlinked, splice,
+};
+
+/// Takes a held row without a value and with one child at most out of the tree: the parent leads to that child, or to none.
+pub fn unlink_child(rows: &Rows, pass: &mut Pass, edge: &Edge, only: RowNo)
+    requires table { IsOf pass.old rows.now }
+    requires rows { IsWithin rows.now.rows edge.now }
+    requires edge { IsEdge pass.old.view edge.now }
+    requires routing { IsRouting pass.old.view edge.now.child.row only }
+    requires aims { AimsNear pass.old.view edge.now.parent.row edge.now.child.row }
+    requires whole { pass.old.view.doing ≡ Nothing }
+    ensures { Unlinks pass.old pass.new edge.now only }
+{
+    let (side, upper, upper_key) = (edge.side, edge.parent.row, edge.parent.key);
+    let (row, stamp) = (edge.child.row, edge.child.stamp);
+    mark_unlinked(rows, pass, upper, side, row, only, stamp, upper_key);
+    splice(rows, pass, upper, side, row, only);
+}
+
+/// Lowers a held row below its child, which takes its place. `key` is the to-do key meanwhile: the row's, or the raised
+/// row's where it is that already. Answers the row with its next stamp.
+pub fn rotate(rows: &Rows, pass: &mut Pass, turn: &Turn, key: Key) -> Grip
+    requires table { IsOf pass.old rows.now }
+    requires rows { AreWithin rows.now.rows turn.now }
+    requires turn { IsTurning pass.old.view turn.now }
+    requires aims { TurnsFor pass.old.view turn.now.parent.row turn.now.row.row turn.now.raised.row key }
+    requires count { count_of turn.now.row.stamp < last_count }
+    requires whole { pass.old.view.doing ≡ Nothing }
+    ensures row { result ≡ later turn.now.row }
+    ensures turned { Rotates pass.old pass.new turn.now }
+{
+    let (parent_side, side, across) = (turn.parent_side, turn.side, turn.side.other());
+    let (upper, lower, upward) = (turn.parent.row, turn.row.row, turn.raised.row);
+    let (row_key, stamp) = (turn.row.key, turn.row.stamp);
+    let raised = turn.raised;
+    let middle = child_of(rows, pass, &raised, across);
+    mark_shrinking(
+        rows,
+        pass,
+        upper,
+        parent_side,
+        lower,
+        side,
+        upward,
+        stamp,
+        key,
+    );
+    link_lowered(rows, pass, upper, parent_side, lower, side, upward, middle);
+    link_raised(rows, pass, upper, parent_side, lower, side, upward);
+    link_parent(rows, pass, upper, parent_side, lower, side, upward, row_key);
+    clear_shrinking(rows, pass, lower, stamp + 2);
+    Grip {
+        row: lower,
+        key: row_key,
+        stamp: stamp + 4,
+    }
+}
+
+/// Lowers a held row below its left child.
+pub fn rotate_right(rows: &Rows, pass: &mut Pass, edge: &Edge, raised: &Grip, key: Key) -> Grip
+    requires table { IsOf pass.old rows.now }
+    requires rows { IsWithin rows.now.rows edge.now × (raised.now.row ≤ rows.now.rows) }
+    requires turn { IsTurning pass.old.view (turn_below edge.now Left raised.now) }
+    requires aims { TurnsFor pass.old.view edge.now.parent.row edge.now.child.row raised.now.row key }
+    requires count { count_of edge.now.child.stamp < last_count }
+    requires whole { pass.old.view.doing ≡ Nothing }
+    ensures row { result ≡ later edge.now.child }
+    ensures turned { Rotates pass.old pass.new (turn_below edge.now Left raised.now) }
+{
+    let turn = turn_of(edge, Side::Left, raised);
+    rotate(rows, pass, &turn, key)
+}
+
+/// Lowers a held row below its right child.
+pub fn rotate_left(rows: &Rows, pass: &mut Pass, edge: &Edge, raised: &Grip, key: Key) -> Grip
+    requires table { IsOf pass.old rows.now }
+    requires rows { IsWithin rows.now.rows edge.now × (raised.now.row ≤ rows.now.rows) }
+    requires turn { IsTurning pass.old.view (turn_below edge.now Right raised.now) }
+    requires aims { TurnsFor pass.old.view edge.now.parent.row edge.now.child.row raised.now.row key }
+    requires count { count_of edge.now.child.stamp < last_count }
+    requires whole { pass.old.view.doing ≡ Nothing }
+    ensures row { result ≡ later edge.now.child }
+    ensures turned { Rotates pass.old pass.new (turn_below edge.now Right raised.now) }
+{
+    let turn = turn_of(edge, Side::Right, raised);
+    rotate(rows, pass, &turn, key)
+}
+
+/// The child of a held row, 0 for none. Row 0 has one on its right alone.
+pub fn child_of(rows: &Rows, pass: &mut Pass, parent: &Grip, side: Side) -> RowNo
+    requires table { IsOf pass.old rows.now }
+    requires row { parent.now.row ≤ rows.now.rows }
+    requires grip { HasGrip pass.old.view parent.now }
+    requires on_right { parent.now.row ≡ 0 → side ≡ Right }
+    ensures pass { Becomes pass.old pass.new (read pass.old.view parent.now.row (link_field side) result) }
+    ensures low { result ≤ rows.now.rows }
+    ensures leads { Leads pass.new.view parent.now.row side result }
+    ensures reached { result ≢ 0 → Among result pass.new.view.reached }
+{
+    let word = load_word(rows, pass, parent.row, link_of(side));
+    row_of(rows, word)
+}
+
+fn row_of(rows: &Rows, word: u64) -> RowNo
+    requires { word ≤ rows.now.rows }
+    ensures { result ≡ word }
+{
+    let _all = rows.count();
+    RowNo::of(word as u32)
+}
+
+/// The field of a link.
+pub fn link_of(side: Side) -> Field
+    ensures { result ≡ link_field side }
+{
+    match side {
+        Side::Left => Field::Left,
+        Side::Right => Field::Right,
+    }
+}
