@@ -3,26 +3,32 @@ ghost use Rattle.snap_epoch.specs.Ready.{IsReady};
 
 use crate::{close, enter, leave, reopen};
 use snap_steps::{Pass, Rows, admit, close_rows, draw, finish, load_gate, load_left, try_close};
+use std::process::Abort;
 use std::sync::Wait;
 use std::test::Fail;
-use std::thread;
+use std::{fmt, thread};
+
+// Asserts that what was found is what is wanted: an `assert_eq!` in each test would make its proof long.
+fn is<R: Abort, T: PartialEq + fmt::Debug + Drop>(rt: &R, found: T, want: T) {
+    assert_eq!(rt; found, want);
+}
 
 #[test]
 fn gate_counts(rt: HostRuntime) -> Result<(), Fail> {
     let (rows, mut passes) = Rows::open(rt.alloc(), 1, 2)?;
-    let mut q = passes.pop().ok_or("no second pass")?;
-    let mut p = passes.pop().ok_or("no first pass")?;
+    let mut q = passes.pop().expect(&rt, "no second pass");
+    let mut p = passes.pop().expect(&rt, "no first pass");
     enter(&rows, &rt, &mut p);
-    assert_eq!(rt; load_gate(&rows, &mut q), 2);
+    is(&rt, load_gate(&rows, &mut q), 2);
     assert_eq!(rt; try_close(&rows, &mut q, 0), Err(2));
     leave(&rows, &mut p, false);
     close(&rows, &rt, &mut q);
-    assert_eq!(rt; load_gate(&rows, &mut p), 3);
-    assert_eq!(rt; load_left(&rows, &mut p), 1);
+    is(&rt, load_gate(&rows, &mut p), 3);
+    is(&rt, load_left(&rows, &mut p), 1);
     reopen(&rows, &mut q);
-    assert_eq!(rt; load_gate(&rows, &mut p), 2);
-    assert_eq!(rt; p.uses(), 1);
-    assert_eq!(rt; q.uses(), 1);
+    is(&rt, load_gate(&rows, &mut p), 2);
+    is(&rt, p.uses(), 1);
+    is(&rt, q.uses(), 1);
     Ok(())
 }
 
@@ -45,9 +51,9 @@ fn take_turns<R: Wait>(rows: &Rows, rt: &R, mut pass: Pass, who: u32) -> Pass
 #[test]
 fn threads_take_turns(rt: HostRuntime) -> Result<(), Fail> {
     let (rows, mut passes) = Rows::open(rt.alloc(), 250, 3)?;
-    let c = passes.pop().ok_or("no third pass")?;
-    let b = passes.pop().ok_or("no second pass")?;
-    let a = passes.pop().ok_or("no first pass")?;
+    let c = passes.pop().expect(&rt, "no third pass");
+    let b = passes.pop().expect(&rt, "no second pass");
+    let a = passes.pop().expect(&rt, "no first pass");
     let ((mut a, b), c) = thread::join(
         &rt,
         || -> (Pass, Pass)
@@ -62,13 +68,13 @@ fn threads_take_turns(rt: HostRuntime) -> Result<(), Fail> {
         },
         || take_turns(&rows, &rt, c, 2),
     );
-    assert_eq!(rt; a.uses() + b.uses() + c.uses(), 600);
-    assert_eq!(rt; load_gate(&rows, &mut a), 600);
-    assert_eq!(rt; load_left(&rows, &mut a), 300);
+    is(&rt, a.uses() + b.uses() + c.uses(), 600);
+    is(&rt, load_gate(&rows, &mut a), 600);
+    is(&rt, load_left(&rows, &mut a), 300);
     let receipt = finish(&rows, b);
     admit(&rows, &mut a, receipt);
     let receipt = finish(&rows, c);
     admit(&rows, &mut a, receipt);
-    assert_eq!(rt; close_rows(rows, a).drawn, 250);
+    is(&rt, close_rows(rows, a).drawn, 250);
     Ok(())
 }

@@ -5,7 +5,7 @@ use Rattle.snap_search.specs.Walk.{KeepsReached}
 use Rattle.snap_search.specs.Work.{KeepsPresent, IsReached}
 use Rattle.snap_search.proofs.Walking.{times-append}
 use Rattle.snap_stamp.specs.declared.layout.Field.{Field}
-use Rattle.snap_stamp.specs.declared.layout.Field.TheVariants.{Birth, Stamp, Right}
+use Rattle.snap_stamp.specs.declared.layout.Field.TheVariants.{Birth, Key, Stamp, Right}
 use Rattle.snap_steps.proofs.Totals.{one_other}
 use Rattle.snap_steps.specs.Counting.{times, Among}
 use Rattle.snap_steps.specs.Facts.{IsKnown, IsBorn}
@@ -21,6 +21,7 @@ use Rattle.snap_update.proofs.Holding.{held_once, knows_read, known_still}
 -- all that the pass held and knew it still does, and it has begun no change
 record Gains (v w : View) : Type 0 where
   pub doing : w.doing ≡ v.doing
+  pub debt : w.debt ≡ v.debt
   pub holds : (r : ℕ) → times r v.holds ≤ times r w.holds
   pub knows : (r : ℕ) (f : Field) (x : ℕ) → IsKnown v.knows r f x → IsKnown w.knows r f x
   pub reached : KeepsReached v w
@@ -29,6 +30,7 @@ record Gains (v w : View) : Type 0 where
 gains_on : (u v w : View) → Gains u v → Gains v w → Gains u w
 gains_on u v w a b = record {
   doing = b.doing ∙ a.doing;
+  debt = b.debt ∙ a.debt;
   holds = λ r. omega (arith, a.holds r, b.holds r);
   knows = λ r f x h. b.knows r f x (a.knows r f x h);
   reached = λ r. omega (arith, a.reached r, b.reached r);
@@ -42,10 +44,10 @@ abbrev after : Known → View → Known
 after k v = record { table = k.table; view = v }
 
 read_gains : (k : Known) (v : View) (r : ℕ) (f : Field) (x : ℕ) → Gains v (read v r f x)
-read_gains k v r f x = record { doing = refl; holds = λ n. omega arith; knows = λ q g y h. known_still (after k v) (after k (read v r f x)) r f x q g y refl h; reached = λ n. omega (arith, times-append n v.reached (led_to v r f x)); present = λ e h. h }
+read_gains k v r f x = record { doing = refl; debt = refl; holds = λ n. omega arith; knows = λ q g y h. known_still (after k v) (after k (read v r f x)) r f x q g y refl h; reached = λ n. omega (arith, times-append n v.reached (led_to v r f x)); present = λ e h. h }
 
 locked_gains : (v : View) (refused : List Fact) (r : ℕ) → Gains v (locked (tried v refused) r)
-locked_gains v refused r = record { doing = refl; holds = λ n. omega arith; knows = λ q g y h. h; reached = λ n. omega arith; present = λ e h. h }
+locked_gains v refused r = record { doing = refl; debt = refl; holds = λ n. omega arith; knows = λ q g y h. h; reached = λ n. omega arith; present = λ e h. h }
 
 -- under its lock a word that was loaded is known
 read_known : (k : Known) (v : View) (r : ℕ) (f : Field) (x : ℕ) → Among r v.holds → IsKnown (read v r f x).knows r f x
@@ -92,6 +94,7 @@ pub at_top : (old new : Known) (epoch : ℕ) → IsIdle old.view → EntersTop o
 at_top old new epoch idle h =
     let holds : new.view.holds ≡ 0 ∷ [] = ap (λ (k : Known). k.view.holds) h.is ∙ ap (λ (l : List ℕ). 0 ∷ l) idle.free in record {
       writing = ap (λ (k : Known). k.view.stage) h.is;
+      whole = ap (λ (k : Known). k.view.doing) h.is ∙ idle.whole;
       reached = inl refl;
       held = omega (arith, ap (times 0) holds, one_more 0 []);
       alone = λ r ne nt. omega (arith, ap (times r) holds, one_other r 0 ne);
@@ -101,6 +104,7 @@ at_top old new epoch idle h =
 pub at_root : (rows : ℕ) (old new : Known) (root : ℕ) → IsAt old.view 0 → LocksRight rows old new 0 root → IsAt new.view root
 at_root rows old new root at h = record {
   writing = ap (λ (k : Known). k.view.stage) h.is ∙ at.writing;
+  whole = ap (λ (k : Known). k.view.doing) h.is ∙ at.whole;
   reached = inr (right_reached rows old new 0 root at.reached h);
   held = omega (arith, ap (λ (k : Known). times root k.view.holds) h.is, one_more root old.view.holds);
   alone = λ r ne nt. omega (arith, ap (λ (k : Known). times r k.view.holds) h.is, at.alone r ne ne, one_other r root nt);
@@ -139,42 +143,49 @@ abbrev laid : Known → Laid
 laid k = record { table = k.table; rows = k.view.rows; passes = k.view.passes }
 
 -- all steps up to the rotation
-pub may_turn : (rows : Laid) (old a b c d e : Known) (epoch root child stamp other : ℕ) → IsOf old rows → IsIdle old.view → EntersTop old a epoch → LocksRight rows.rows a b 0 root → LocksRight rows.rows b c root child → FindsClean c d root epoch stamp → FindsClean d e child epoch other → MayTurn rows e root child stamp
-may_turn rows old a b c d e epoch root child stamp other of idle top first second own raised =
+pub may_turn : (rows : Laid) (old a b c d e f : Known) (epoch root child stamp other key : ℕ) → IsOf old rows → IsIdle old.view → EntersTop old a epoch → LocksRight rows.rows a b 0 root → LocksRight rows.rows b c root child → FindsClean c d root epoch stamp → FindsClean d e child epoch other → Becomes e f (read e.view root Key key) → MayTurn rows f root child stamp key
+may_turn rows old a b c d e f epoch root child stamp other key of idle top first second own raised last =
     let at : IsAt a.view 0 = at_top old a epoch idle top in
     let at_b : IsAt b.view root = at_root rows.rows a b root at first in
     let ab : Gains a.view b.view = right_gains rows.rows a b 0 root first in
     let bc : Gains b.view c.view = right_gains rows.rows b c root child second in
     let cd : Gains c.view d.view = clean_gains c d root epoch stamp own in
     let de : Gains d.view e.view = clean_gains d e child epoch other raised in
-    let ce : Gains c.view e.view = gains_on c.view d.view e.view cd de in
-    let be : Gains b.view e.view = gains_on b.view c.view e.view bc ce in
-    let ae : Gains a.view e.view = gains_on a.view b.view e.view ab be in
+    let ef : Gains e.view f.view = gains_by e f (read e.view root Key key) last (read_gains e e.view root Key key) in
+    let df : Gains d.view f.view = gains_on d.view e.view f.view de ef in
+    let cf : Gains c.view f.view = gains_on c.view d.view f.view cd df in
+    let bf : Gains b.view f.view = gains_on b.view c.view f.view bc cf in
+    let af : Gains a.view f.view = gains_on a.view b.view f.view ab bf in
     let now : Among epoch a.view.present = subst (λ (k : Known). Among epoch k.view.present) (sym top.is) (one_more epoch old.view.present) in
+    let held_b : Among root b.view.holds = at_b.held in
     let held_c : Among child c.view.holds = subst (λ (k : Known). Among child k.view.holds) (sym second.is) (one_more child b.view.holds) in
     let came_c : Among child c.view.reached = right_reached rows.rows b c root child at_b.reached second in
     let came_b : Among root b.view.reached = right_reached rows.rows a b 0 root at.reached first in
-    let stamp_d : IsKnown d.view.knows root Stamp stamp = clean_stamp c d root epoch stamp (omega (arith, at_b.held, bc.holds root)) own in
-    let born_d : IsBorn d.view root = clean_born c d root epoch stamp (omega (arith, at_b.held, bc.holds root)) (bc.present epoch (ab.present epoch now)) own in record {
+    let stamp_d : IsKnown d.view.knows root Stamp stamp = clean_stamp c d root epoch stamp (omega (arith, held_b, bc.holds root)) own in
+    let born_d : IsBorn d.view root = clean_born c d root epoch stamp (omega (arith, held_b, bc.holds root)) (bc.present epoch (ab.present epoch now)) own in
+    let born_e : IsBorn e.view child = clean_born d e child epoch other (omega (arith, held_c, cd.holds child)) (cd.present epoch (bc.present epoch (ab.present epoch now))) raised in record {
       of = (ap (λ (l : Laid). l.table) same ∙ of.0, ap (λ (l : Laid). l.rows) same ∙ of.1, ap (λ (l : Laid). l.passes) same ∙ of.2);
       low = first.low;
-      whole = ae.doing ∙ ap (λ (k : Known). k.view.doing) top.is ∙ idle.whole;
+      whole = af.doing ∙ ap (λ (k : Known). k.view.doing) top.is ∙ idle.whole;
       turn = record {
-        held_parent = omega (arith, at.held, ae.holds 0);
-        held = omega (arith, at_b.held, be.holds root);
-        held_raised = omega (arith, held_c, ce.holds child);
+        held_parent = omega (arith, at.held, af.holds 0);
+        held = omega (arith, held_b, bf.holds root);
+        held_raised = omega (arith, held_c, cf.holds child);
         parent_born = inl (refl, refl);
-        reached = omega (arith, came_b, be.reached root);
-        born = born_still d.view e.view root de born_d;
-        raised_reached = omega (arith, came_c, ce.reached child);
-        raised_born = clean_born d e child epoch other (omega (arith, held_c, cd.holds child)) (cd.present epoch (bc.present epoch (ab.present epoch now))) raised;
-        child = be.knows 0 Right root (right_known rows.rows a b 0 root at.held first);
-        raised_child = ce.knows root Right child (right_known rows.rows b c root child at_b.held second);
+        reached = omega (arith, came_b, bf.reached root);
+        born = born_still d.view f.view root df born_d;
+        raised_reached = omega (arith, came_c, cf.reached child);
+        raised_born = born_still e.view f.view child ef born_e;
+        child = bf.knows 0 Right root (right_known rows.rows a b 0 root at.held first);
+        raised_child = cf.knows root Right child (right_known rows.rows b c root child held_b second);
         apart = (second.apart, λ z. first.some_row (sym z), λ z. second.some_row (sym z));
       };
-      stamp_is = de.knows root Stamp stamp stamp_d;
+      stamp_is = df.knows root Stamp stamp stamp_d;
       unmarked = own.unmarked;
+      below = own.below;
+      key_is = subst (λ (k : Known). IsKnown k.view.knows root Key key) (sym last) (read_known e e.view root Key key (omega (arith, held_b, bc.holds root, cd.holds root, de.holds root)));
+      owes = af.debt ∙ ap (λ (k : Known). k.view.debt) top.is;
     }
   where
-    same : laid e ≡ laid old
-    same = ap laid raised.is ∙ ap laid own.is ∙ ap laid second.is ∙ ap laid first.is ∙ ap laid top.is
+    same : laid f ≡ laid old
+    same = ap laid last ∙ ap laid raised.is ∙ ap laid own.is ∙ ap laid second.is ∙ ap laid first.is ∙ ap laid top.is

@@ -1,235 +1,157 @@
--- Steps before the entry of a write, and after it.
-use Rattle.std.proofs.Common.{◌≡◌, inl, inr, ℕ, ◌<◌, ◌≤◌, List, [], ◌∷◌, ◌++◌, append_assoc, append-nil, Option, None, refl, sym, ap, ◌∙◌, subst, arith}
-use Rattle.snap_locks.specs.Held.{HasLocked}
+-- The entry of a write, what comes before it, and the release of the lock after it.
+use Rattle.std.proofs.Common.{◌≡◌, inl, inr, ℕ, ◌≤◌, List, [], ◌∷◌, ◌++◌, append-nil, Option, None, refl, sym, ap, ◌∙◌, subst, arith}
+use Rattle.snap_locks.specs.Held.{HasLocked, tried}
 use Rattle.snap_model.specs.History.{Begins, IsLegal, calls_of}
 use Rattle.snap_model.specs.declared.call.Call.{Call}
+use Rattle.snap_model.specs.declared.call.Call.TheVariants.{Put}
 use Rattle.snap_model.specs.declared.call.Entry.{Entry}
 use Rattle.snap_search.specs.Walk.{SeesMore}
-use Rattle.snap_search.specs.Work.{Works, NotesMore}
-use mathlib.Core.Logic.{dite}
-use native.Mathlib.Decide.{ℕ_discrete}
-use Rattle.snap_rule.specs.State.{In}
-use Rattle.snap_search.proofs.Walking.{begins_on, times-append}
-use Rattle.snap_search.proofs.Working.{notes_on, no_notes, works_on}
+use Rattle.snap_search.proofs.Walking.{begins_on}
+use Rattle.snap_search.proofs.Working.{notes_on, no_notes}
+use Rattle.snap_stamp.specs.declared.layout.Field.{Field}
 use Rattle.snap_steps.specs.Counting.{times, removed}
+use Rattle.snap_steps.specs.Drawing.{HasDrawn, notes_of}
 use Rattle.snap_steps.specs.Histories.{Enters}
 use Rattle.snap_steps.specs.Seen.{Known, Becomes}
-use Rattle.snap_steps.specs.Steps.Locks.{unlocked}
-use Rattle.snap_steps.specs.Drawing.{HasDrawn, notes_of}
 use Rattle.snap_steps.specs.Steps.Draws.{drew}
 use Rattle.snap_steps.specs.Steps.Header.{all_noted}
+use Rattle.snap_steps.specs.Steps.Locks.{locked, unlocked}
 use Rattle.snap_steps.specs.Steps.Writes.{entry, stored, made_entry, hung}
-use Rattle.snap_steps.proofs.Totals.{removed_same, removed_other, one_other}
-use Rattle.snap_stamp.specs.declared.layout.Field.{Field}
-use Rattle.snap_model.specs.declared.call.Call.TheVariants.{Put}
-use Rattle.snap_update.specs.Held.{Fills}
-use Rattle.snap_steps.specs.declared.view.WordNote.{WordNote}
-use Rattle.snap_steps.specs.declared.view.WordNote.TheVariants.{Epoch}
+use Rattle.snap_steps.specs.declared.view.Fact.{Fact}
 use Rattle.snap_steps.specs.declared.view.View.{View}
-use Rattle.snap_update.specs.Answers.{written, Made, Writes, PutsAbsent, Refuses, RefusedFull}
-use Rattle.snap_update.proofs.Holding.{works_freed, removed_alone}
+use Rattle.snap_steps.specs.declared.view.WordNote.{WordNote}
+use Rattle.snap_update.specs.Answers.{GoesOn, LinksWhatItDraws, Made, Writes}
+use Rattle.snap_update.specs.Held.{Fills, stored_in}
+use Rattle.snap_update.proofs.Going.{written_on, removed_added, alone_removed, goes_links, links_on}
+use Rattle.snap_update.proofs.Holding.{removed_alone}
 
--- a step after which the pass is as the view says is one of a write where the view differs in nothing else
-pub written_by : (old new : Known) (w : View) → Becomes old new w → (let k : Known = record { table = old.table; view = w } in k ≡ written old w) → new ≡ written old new.view
-written_by old new w e same = e ∙ same ∙ ap (λ (k : Known). written old k.view) (sym e)
+abbrev known : Known → View → Known
+known k v = record { table = k.table; view = v }
 
-pub written_on : (old mid new : Known) → mid ≡ written old mid.view → new ≡ written mid new.view → new ≡ written old new.view
-written_on old mid new a b = b ∙ ap (λ (k : Known). written k new.view) a
-
--- what comes before the entry
-pub record Before (old mid : Known) (l : List WordNote) (rows : List ℕ) : Type 0 where
-  pub is : mid ≡ written old mid.view
-  pub mine : mid.view.mine ≡ old.view.mine
-  pub drawn : mid.view.drawn ≡ old.view.drawn ++ rows
-  pub noted : NotesMore old.view mid.view l
-  pub sees : SeesMore old.view mid.view
-
-pub works_before : (old mid : Known) (l : List WordNote) → Works old mid l → Before old mid l []
-works_before old mid l w = record {
-  is = w.is ∙ ap (λ (k : Known). written old k.view) (sym w.is);
-  mine = ap (λ (k : Known). k.view.mine) w.is;
-  drawn = ap (λ (k : Known). k.view.drawn) w.is ∙ sym (append-nil old.view.drawn);
-  noted = w.noted;
-  sees = w.sees;
+-- an entry that may be made after more was seen may be made before
+enters_from : (v w : View) (h : List Entry) (call : Call) (reply : Option ℕ) → w.who ≡ v.who → w.mine ≡ v.mine → SeesMore v w → Enters w h (entry w.who call reply) → Enters v h (entry v.who call reply)
+enters_from v w h call reply who mine sees e = record {
+  goes_on = begins sees e.goes_on;
+  legal = subst (λ (i : ℕ). IsLegal (h ++ entry i call reply ∷ [])) who e.legal;
+  own = ap (calls_of h) (sym who) ∙ e.own ∙ mine;
 }
+  where
+    begins : SeesMore v w → Begins w.seen h → Begins v.seen h
+    begins (inl q) b = subst (λ (l : List Entry). Begins l h) q b
+    begins (inr x) b = begins_on v.seen w.seen h x.goes_on b
 
-pub lock_before : (old mid : Known) (row : ℕ) → HasLocked old mid row → Before old mid [] []
-lock_before old mid row l = record {
-  is = l.is ∙ ap (λ (k : Known). written old k.view) (sym l.is);
-  mine = ap (λ (k : Known). k.view.mine) l.is;
-  drawn = ap (λ (k : Known). k.view.drawn) l.is ∙ sym (append-nil old.view.drawn);
-  noted = no_notes old.view mid.view (ap (λ (k : Known). k.view.notes) l.is) (ap (λ (k : Known). k.view.handed) l.is) (ap (λ (k : Known). k.view.epochs) l.is);
-  sees = inl (ap (λ (k : Known). k.view.seen) l.is);
-}
+pub no_links : (v w : View) → w.drawn ≡ v.drawn → ((r : ℕ) → times r w.own ≤ times r v.own) → LinksWhatItDraws v w
+no_links v w drawn own = record { rows = []; drawn = drawn ∙ sym (append-nil v.drawn); linked = λ r some_r. absurd (omega arith); no_more = own }
 
-goes_from : (v w : View) (h : List Entry) → SeesMore v w → Begins w.seen h → Begins v.seen h
-goes_from v w h (inl e) b = subst (λ (l : List Entry). Begins l h) e b
-goes_from v w h (inr x) b = begins_on v.seen w.seen h x.goes_on b
-
-pub made_after : (old mid new : Known) (l : List WordNote) (rows : List ℕ) (call : Call) (reply : Option ℕ) → Before old mid l rows → ((r : ℕ) → 0 < times r rows → times r new.view.own ≡ 0) → ((r : ℕ) → times r new.view.own ≤ times r old.view.own) → Made mid new call reply → Made old new call reply
-made_after old mid new l rows call reply b linked no_more m =
-    let who : mid.view.who ≡ old.view.who = ap (λ (k : Known). k.view.who) b.is in
-    let same : entry mid.view.who call reply ≡ entry old.view.who call reply = ap (λ (i : ℕ). entry i call reply) who in record {
-      is = written_on old mid new b.is m.is;
+-- a write that went on before it made its entry
+pub made_after : (old mid new : Known) (key : ℕ) (r : List ℕ) (l : List WordNote) (call : Call) (reply : Option ℕ) → GoesOn old mid key r l → Made mid new call reply → Made old new call reply
+made_after old mid new key r l call reply g m =
+    let who : mid.view.who ≡ old.view.who = ap (λ (k : Known). k.view.who) g.is in
+    let same = ap (λ (i : ℕ). entry i call reply) who in record {
+      is = written_on old mid new g.is m.is;
       log = m.log;
-      enters = record {
-        goes_on = goes_from old.view mid.view m.log b.sees m.enters.goes_on;
-        legal = subst (λ (e : Entry). IsLegal (m.log ++ e ∷ [])) same m.enters.legal;
-        own = ap (calls_of m.log) (sym who) ∙ m.enters.own ∙ b.mine;
-      };
+      enters = enters_from old.view mid.view m.log call reply who g.mine g.sees m.enters;
       seen = m.seen ∙ ap (λ (e : Entry). m.log ++ e ∷ []) same;
-      mine = m.mine ∙ (λ i. b.mine i ++ same i ∷ []);
+      mine = m.mine ∙ (λ i. g.mine i ++ same i ∷ []);
       stage = m.stage;
       more = l ++ m.more;
-      noted = notes_on old.view mid.view new.view l m.more b.noted m.noted;
-      links = record {
-        rows = rows ++ m.links.rows;
-        drawn = m.links.drawn ∙ ap (λ (x : List ℕ). x ++ m.links.rows) b.drawn ∙ append_assoc old.view.drawn rows m.links.rows;
-        linked = λ r some. dite (ℕ_discrete (times r rows) 0) (λ z. m.links.linked r (omega (arith, some, times-append r rows m.links.rows))) (λ nz. linked r (omega arith));
-        no_more = no_more;
-      };
+      noted = notes_on old.view mid.view new.view l m.more g.noted m.noted;
+      links = links_on old.view mid.view new.view (goes_links old mid key r l g) m.links m.reached;
+      reached = λ n. omega (arith, g.reached n, m.reached n);
     }
 
-pub made_freed : (old mid new : Known) (row : ℕ) (call : Call) (reply : Option ℕ) → Made old mid call reply → Becomes mid new (unlocked mid.view row) → Made old new call reply
-made_freed old mid new row call reply m e = record {
-  is = written_on old mid new m.is (written_by mid new (unlocked mid.view row) e refl);
-  log = m.log;
-  enters = m.enters;
-  seen = ap (λ (k : Known). k.view.seen) e ∙ m.seen;
-  mine = ap (λ (k : Known). k.view.mine) e ∙ m.mine;
-  stage = ap (λ (k : Known). k.view.stage) e ∙ m.stage;
-  more = m.more;
-  noted = record { notes = ap (λ (k : Known). k.view.notes) e ∙ m.noted.notes; handed = ap (λ (k : Known). k.view.handed) e ∙ m.noted.handed; epochs = ap (λ (k : Known). k.view.epochs) e ∙ m.noted.epochs };
-  links = record { rows = m.links.rows; drawn = ap (λ (k : Known). k.view.drawn) e ∙ m.links.drawn; linked = λ r q. ap (λ (k : Known). times r k.view.own) e ∙ m.links.linked r q; no_more = λ r. omega (arith, ap (λ (k : Known). times r k.view.own) e, m.links.no_more r) };
-}
+pub writes_after : (old mid new : Known) (key : ℕ) (r : List ℕ) (l : List WordNote) (call : Call) (reply : Option ℕ) → GoesOn old mid key r l → Writes mid new call reply → Writes old new call reply
+writes_after old mid new key r l call reply g m = record { made = made_after old mid new key r l call reply g m.made; holds = m.holds ∙ g.holds }
 
 -- a write whose row is locked before it and freed after it
+freed : (old b : Known) (refused : List Fact) (row : ℕ) (call : Call) (reply : Option ℕ) → Writes (known old (locked (tried old.view refused) row)) b call reply → old.view.holds ≡ [] → Writes old (known b (unlocked b.view row)) call reply
+freed old b refused row call reply w free = let m = w.made in record {
+  made = record {
+    is = ap (λ (k : Known). known k (unlocked k.view row)) m.is;
+    log = m.log;
+    enters = record { goes_on = m.enters.goes_on; legal = m.enters.legal; own = m.enters.own };
+    seen = m.seen;
+    mine = m.mine;
+    stage = m.stage;
+    more = m.more;
+    noted = record { notes = m.noted.notes; handed = m.noted.handed; epochs = m.noted.epochs; worn = m.noted.worn };
+    links = record { rows = m.links.rows; drawn = m.links.drawn; linked = m.links.linked; no_more = m.links.no_more };
+    reached = m.reached;
+  };
+  holds = ap (removed row) (w.holds ∙ ap (λ (h : List ℕ). row ∷ h) free) ∙ removed_alone row ∙ sym free;
+}
+
 pub writes_locked : (old a b new : Known) (row : ℕ) (call : Call) (reply : Option ℕ) → HasLocked old a row → Writes a b call reply → Becomes b new (unlocked b.view row) → old.view.holds ≡ [] → Writes old new call reply
-writes_locked old a b new row call reply l w e free = record {
-  made = made_freed old b new row call reply (made_after old a b [] [] call reply (lock_before old a row l) (λ r some. absurd (omega arith)) (λ r. omega (arith, w.made.links.no_more r, ap (λ (k : Known). times r k.view.own) l.is)) w.made) e;
-  holds = ap (λ (k : Known). k.view.holds) e ∙ ap (removed row) (w.holds ∙ ap (λ (k : Known). k.view.holds) l.is ∙ ap (λ (h : List ℕ). row ∷ h) free) ∙ removed_alone row ∙ sym free;
-}
-
-pub writes_after : (old mid new : Known) (l : List WordNote) (call : Call) (reply : Option ℕ) → Works old mid l → Writes mid new call reply → Writes old new call reply
-writes_after old mid new l call reply w m = record { made = made_after old mid new l [] call reply (works_before old mid l w) (λ r some. absurd (omega arith)) (λ r. omega (arith, m.made.links.no_more r, ap (λ (k : Known). times r k.view.own) w.is)) m.made; holds = m.holds ∙ ap (λ (k : Known). k.view.holds) w.is }
-
--- a refusal, likewise
-pub refuses_locked : (rows : ℕ) (old a b new : Known) (row : ℕ) (call : Call) → HasLocked old a row → Refuses rows a b call → Becomes b new (unlocked b.view row) → old.view.holds ≡ [] → Refuses rows old new call
-refuses_locked rows old a b new row call l r e free = record {
-  absent = subst (λ (k : Known). PutsAbsent call k.view.seen) (sym e) r.absent;
-  more = r.more;
-  works = works_freed old a b new row r.more l r.works e free;
-  full = r.full;
-}
-
-pub in_right : (n : WordNote) (l m : List WordNote) → In n m → In n (l ++ m)
-in_right n [] m h = h
-in_right n (x ∷ xs) m h = inr (in_right n xs m h)
-
-pub in_left : (n : WordNote) (l m : List WordNote) → In n l → In n (l ++ m)
-in_left n [] m h = absurd h
-in_left n (x ∷ xs) m (inl e) = inl e
-in_left n (x ∷ xs) m (inr h) = inr (in_left n xs m h)
-
-pub refuses_after : (rows : ℕ) (old mid new : Known) (l : List WordNote) (call : Call) → Works old mid l → Refuses rows mid new call → Refuses rows old new call
-refuses_after rows old mid new l call w r = record {
-  absent = r.absent;
-  more = l ++ r.more;
-  works = works_on old mid new l r.more w r.works;
-  full = in_right _ l r.more r.full;
-}
+writes_locked old a b new row call reply h w e free = subst (λ (k : Known). Writes old k call reply) (sym e) (freed old b h.refused row call reply (subst (λ (k : Known). Writes k b call reply) h.is w) free)
 
 -- the entry at the row that has the key: its value word was stored, or was 0
 pub stores_here : (old new : Known) (call : Call) (reply : Option ℕ) (log : List Entry) (row x : ℕ) → Enters old.view log (entry old.view.who call reply) → Becomes old new (stored old.view log (entry old.view.who call reply) row x) → Writes old new call reply
-stores_here old new call reply log row x enters e = record {
-  made = record {
-    is = written_by old new (stored old.view log (entry old.view.who call reply) row x) e refl;
-    log = log;
-    enters = enters;
-    seen = ap (λ (k : Known). k.view.seen) e;
-    mine = ap (λ (k : Known). k.view.mine) e;
-    stage = ap (λ (k : Known). k.view.stage) e;
-    more = [];
-    noted = no_notes old.view new.view (ap (λ (k : Known). k.view.notes) e) (ap (λ (k : Known). k.view.handed) e) (ap (λ (k : Known). k.view.epochs) e);
-    links = record { rows = []; drawn = ap (λ (k : Known). k.view.drawn) e ∙ sym (append-nil old.view.drawn); linked = λ r some. absurd (omega arith); no_more = λ r. omega (arith, ap (λ (k : Known). times r k.view.own) e) };
-  };
-  holds = ap (λ (k : Known). k.view.holds) e;
-}
+stores_here old new call reply log row x enters e =
+    let w : View = stored old.view log (entry old.view.who call reply) row x in
+    let whole : Writes old (known old w) call reply = record {
+      made = record {
+        is = refl;
+        log = log;
+        enters = enters;
+        seen = refl;
+        mine = refl;
+        stage = refl;
+        more = [];
+        noted = no_notes old.view w refl refl refl (λ h. h);
+        links = no_links old.view w refl (λ r. omega arith);
+        reached = λ r. omega arith;
+      };
+      holds = refl;
+    } in subst (λ (k : Known). Writes old k call reply) (sym e) whole
 
 pub confirms_here : (old new : Known) (call : Call) (reply : Option ℕ) (log : List Entry) → Enters old.view log (entry old.view.who call reply) → Becomes old new (made_entry old.view log (entry old.view.who call reply)) → Writes old new call reply
-confirms_here old new call reply log enters e = record {
-  made = record {
-    is = written_by old new (made_entry old.view log (entry old.view.who call reply)) e refl;
-    log = log;
-    enters = enters;
-    seen = ap (λ (k : Known). k.view.seen) e;
-    mine = ap (λ (k : Known). k.view.mine) e;
-    stage = ap (λ (k : Known). k.view.stage) e;
-    more = [];
-    noted = no_notes old.view new.view (ap (λ (k : Known). k.view.notes) e) (ap (λ (k : Known). k.view.handed) e) (ap (λ (k : Known). k.view.epochs) e);
-    links = record { rows = []; drawn = ap (λ (k : Known). k.view.drawn) e ∙ sym (append-nil old.view.drawn); linked = λ r some. absurd (omega arith); no_more = λ r. omega (arith, ap (λ (k : Known). times r k.view.own) e) };
-  };
-  holds = ap (λ (k : Known). k.view.holds) e;
-}
-
--- without a row a list has no more of any other
-removed_le : (x r : ℕ) (l : List ℕ) → times r (removed x l) ≤ times r l
-removed_le x r l = dite (ℕ_discrete r x) (λ same. omega (arith, ap (λ (i : ℕ). times i (removed x l)) same, removed_same x l)) (λ ne. omega (arith, removed_other x r l ne))
-
-pub removed_added : (x r : ℕ) (l : List ℕ) → times r (removed x (x ∷ l)) ≤ times r l
-removed_added x r l = dite (ℕ_discrete r x) (λ same. omega (arith, ap (λ (i : ℕ). times i (removed x (x ∷ l))) same, removed_same x (x ∷ l))) (λ ne. omega (arith, removed_other x r (x ∷ l) ne, one_other r x ne))
-
--- a row was drawn, filled and linked
-drawn_before : (rows : ℕ) (old a b : Known) (leaf key value : ℕ) (d : HasDrawn rows old a leaf) → Fills a b leaf key value → Before old b (notes_of d.0) (leaf ∷ [])
-drawn_before rows old a b leaf key value d f =
-    let first : a ≡ written old a.view = written_by old a (drew (all_noted old.view (notes_of d.0)) leaf) d.3 refl in
-    let second : b ≡ written a b.view = f.is ∙ ap (λ (k : Known). written a k.view) (sym f.is) in record {
-      is = written_on old a b first second;
-      mine = ap (λ (k : Known). k.view.mine) f.is ∙ ap (λ (k : Known). k.view.mine) d.3;
-      drawn = ap (λ (k : Known). k.view.drawn) f.is ∙ ap (λ (k : Known). k.view.drawn) d.3;
-      noted = record {
-        notes = ap (λ (k : Known). k.view.notes) f.is ∙ ap (λ (k : Known). k.view.notes) d.3;
-        handed = ap (λ (k : Known). k.view.handed) f.is ∙ ap (λ (k : Known). k.view.handed) d.3;
-        epochs = ap (λ (k : Known). k.view.epochs) f.is ∙ ap (λ (k : Known). k.view.epochs) d.3;
+confirms_here old new call reply log enters e =
+    let w : View = made_entry old.view log (entry old.view.who call reply) in
+    let whole : Writes old (known old w) call reply = record {
+      made = record {
+        is = refl;
+        log = log;
+        enters = enters;
+        seen = refl;
+        mine = refl;
+        stage = refl;
+        more = [];
+        noted = no_notes old.view w refl refl refl (λ h. h);
+        links = no_links old.view w refl (λ r. omega arith);
+        reached = λ r. omega arith;
       };
-      sees = inl (ap (λ (k : Known). k.view.seen) f.is ∙ ap (λ (k : Known). k.view.seen) d.3);
-    }
+      holds = refl;
+    } in subst (λ (k : Known). Writes old k call reply) (sym e) whole
+
+-- the pass once it drew the leaf, made it one, and linked it
+abbrev filled : View → List WordNote → ℕ → View → View
+filled v l leaf w = record (drew (all_noted v l) leaf) { steps = w.steps; wrote = w.wrote }
+
+hangs_at : (old : Known) (l : List WordNote) (leaf : ℕ) (w : View) (call : Call) (parent : ℕ) (field : Field) (log : List Entry) → Enters (filled old.view l leaf w) log (entry old.view.who call None) → Writes old (known old (hung (filled old.view l leaf w) log (entry old.view.who call None) parent field leaf)) call None
+hangs_at old l leaf w call parent field log enters = record {
+  made = record {
+    is = refl;
+    log = log;
+    enters = record { goes_on = enters.goes_on; legal = enters.legal; own = enters.own };
+    seen = refl;
+    mine = refl;
+    stage = refl;
+    more = l;
+    noted = record { notes = refl; handed = refl; epochs = refl; worn = λ h. h };
+    links = record {
+      rows = leaf ∷ [];
+      drawn = refl;
+      linked = λ r some_r. (alone_removed leaf r (leaf ∷ old.view.own) some_r, omega (arith, some_r));
+      no_more = λ r. removed_added leaf r old.view.own;
+    };
+    reached = λ r. omega arith;
+  };
+  holds = refl;
+}
 
 pub hangs : (rows : ℕ) (old a b new : Known) (leaf key value parent : ℕ) (field : Field) (log : List Entry) → HasDrawn rows old a leaf → Fills a b leaf key value → Enters b.view log (entry b.view.who (Put key value) None) → Becomes b new (hung b.view log (entry b.view.who (Put key value) None) parent field leaf) → Writes old new (Put key value) None
 hangs rows old a b new leaf key value parent field log d f enters e =
-    let own : new.view.own ≡ removed leaf b.view.own = ap (λ (k : Known). k.view.own) e in
-    let made : Made b new (Put key value) None = record {
-      is = written_by b new (hung b.view log (entry b.view.who (Put key value) None) parent field leaf) e refl;
-      log = log;
-      enters = enters;
-      seen = ap (λ (k : Known). k.view.seen) e;
-      mine = ap (λ (k : Known). k.view.mine) e;
-      stage = ap (λ (k : Known). k.view.stage) e;
-      more = [];
-      noted = no_notes b.view new.view (ap (λ (k : Known). k.view.notes) e) (ap (λ (k : Known). k.view.handed) e) (ap (λ (k : Known). k.view.epochs) e);
-      links = record { rows = []; drawn = ap (λ (k : Known). k.view.drawn) e ∙ sym (append-nil b.view.drawn); linked = λ r some. absurd (omega arith); no_more = λ r. omega (arith, ap (times r) own, removed_le leaf r b.view.own) };
-    } in record {
-      made = made_after old b new (notes_of d.0) (leaf ∷ []) (Put key value) None (drawn_before rows old a b leaf key value d f)
-          (λ r some. dite (ℕ_discrete r leaf) (λ same. ap (times r) own ∙ (λ i. times (same i) (removed leaf b.view.own)) ∙ removed_same leaf b.view.own) (λ ne. absurd (omega (arith, some, one_other r leaf ne)))) (λ r. omega (arith, ap (times r) own, ap (λ (k : Known). times r (removed leaf k.view.own)) f.is, ap (λ (k : Known). times r (removed leaf k.view.own)) d.3, removed_added leaf r old.view.own)) made;
-      holds = ap (λ (k : Known). k.view.holds) e ∙ ap (λ (k : Known). k.view.holds) f.is ∙ ap (λ (k : Known). k.view.holds) d.3;
-    }
-
--- a refusal, with a note of the epoch that came before it or with it
-pub refused_after : (rows : ℕ) (old mid new : Known) (l : List WordNote) (call : Call) (e : ℕ) → Works old mid l → (r : Refuses rows mid new call) → In (Epoch e) (l ++ r.more) → (f : RefusedFull rows old new call) × (f.epoch ≡ e)
-refused_after rows old mid new l call e w r noted = let on = works_on old mid new l r.more w r.works in (
-  record {
-    is = on.is ∙ ap (λ (k : Known). written old k.view) (sym on.is);
-    mine = ap (λ (k : Known). k.view.mine) on.is;
-    stage = ap (λ (k : Known). k.view.stage) on.is;
-    holds = ap (λ (k : Known). k.view.holds) on.is;
-    sees = on.sees;
-    links = record { rows = []; drawn = ap (λ (k : Known). k.view.drawn) on.is ∙ sym (append-nil old.view.drawn); linked = λ n some. absurd (omega arith); no_more = λ n. omega (arith, ap (λ (k : Known). times n k.view.own) on.is) };
-    more = l ++ r.more;
-    noted = on.noted;
-    full = in_right _ l r.more r.full;
-    epoch = e;
-    epoch_noted = noted;
-    cause = inl r.absent;
-  },
-  refl,
-)
+    let l : List WordNote = notes_of d.0 in let call : Call = Put key value in
+    let is : (let k : Known = known old (filled old.view l leaf b.view) in b ≡ k) = f.is ∙ ap (λ (k : Known). stored_in k b.view.steps b.view.wrote) d.3 in
+    let whole : (let k : Known = known old (hung (filled old.view l leaf b.view) log (entry old.view.who call None) parent field leaf) in new ≡ k) = e ∙ ap (λ (k : Known). known k (hung k.view log (entry k.view.who call None) parent field leaf)) is in
+    subst (λ (k : Known). Writes old k call None) (sym whole) (hangs_at old l leaf b.view call parent field log (subst (λ (k : Known). Enters k.view log (entry k.view.who call None)) is enters))

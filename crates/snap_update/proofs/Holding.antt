@@ -1,20 +1,11 @@
 -- Work under the lock of a row.
-use Rattle.std.proofs.Common.{◌≡◌, inl, inr, ℕ, ◌+◌, ◌<◌, cond, Bool, true, false, eq-eqb, nat_lt, lt-ltb, List, [], ◌∷◌, ◌++◌, refl, sym, ap, ◌∙◌, subst, arith}
-use Rattle.snap_locks.specs.Held.{HasLocked}
-use Rattle.snap_search.specs.Walk.{SeesMore}
-use Rattle.snap_search.specs.Work.{worked, Works}
-use Rattle.snap_search.proofs.Walking.{extends_on}
+use Rattle.std.proofs.Common.{◌≡◌, inl, inr, ℕ, ◌+◌, ◌<◌, cond, Bool, true, false, eq-eqb, nat_lt, lt-ltb, List, [], ◌∷◌, refl, sym, ap, ◌∙◌, subst, arith}
 use Rattle.snap_stamp.specs.declared.layout.Field.{Field}
-use Rattle.snap_steps.specs.Counting.{times, removed, Among}
+use Rattle.snap_steps.specs.Counting.{times, removed}
 use Rattle.snap_steps.specs.Facts.{IsKnown, fact}
-use Rattle.snap_steps.specs.Histories.{Extends}
 use Rattle.snap_steps.specs.Seen.{Known, Becomes}
 use Rattle.snap_steps.specs.Steps.Fields.{read}
-use Rattle.snap_steps.specs.Steps.Header.{all_handed, all_epochs}
-use Rattle.snap_steps.specs.Steps.Locks.{unlocked}
-use Rattle.snap_steps.specs.declared.view.WordNote.{WordNote}
 use Rattle.snap_steps.specs.declared.view.Fact.{Fact}
-use Rattle.snap_steps.specs.declared.view.View.{View}
 
 -- a row that is held alone
 pub held_once : (holds : List ℕ) (r : ℕ) → holds ≡ r ∷ [] → 0 < times r holds
@@ -36,37 +27,3 @@ known_still old new r f x q g y e h = subst (λ (k : Known). IsKnown k.view.know
     go : (b : Bool) → IsKnown (cond b (fact r f x ∷ old.view.knows) old.view.knows) q g y
     go true = inr h
     go false = h
-
--- work between a lock and its release
-abbrev free_holds : Known → View → List ℕ → Known
-free_holds k w holds = record { table = k.table; view = record (worked k w).view { holds = holds } }
-
-pub works_freed : (old a b new : Known) (row : ℕ) (more : List WordNote) → HasLocked old a row → Works a b more → Becomes b new (unlocked b.view row) → old.view.holds ≡ [] → Works old new more
-works_freed old a b new row more l w e free =
-    let back : removed row (row ∷ old.view.holds) ≡ old.view.holds = ap (λ (h : List ℕ). removed row (row ∷ h)) free ∙ removed_alone row ∙ sym free in
-    let here : new ≡ free_holds b new.view (removed row b.view.holds) = e ∙ ap (λ (k : Known). free_holds b k.view (removed row b.view.holds)) (sym e) in
-    record {
-      is = here ∙ ap (λ (k : Known). free_holds k new.view (removed row k.view.holds)) w.is ∙ ap (λ (k : Known). free_holds k new.view (removed row k.view.holds)) l.is ∙ ap (free_holds old new.view) back;
-      noted = record {
-        notes = ap (λ (k : Known). k.view.notes) e ∙ w.noted.notes ∙ ap (λ (k : Known). k.view.notes ++ more) l.is;
-        handed = ap (λ (k : Known). k.view.handed) e ∙ w.noted.handed ∙ ap (λ (k : Known). all_handed k.view.handed more) l.is;
-        epochs = ap (λ (k : Known). k.view.epochs) e ∙ w.noted.epochs ∙ ap (λ (k : Known). all_epochs k.view.epochs more) l.is;
-      };
-      sees = sees;
-      kept = λ r. omega (arith, ap (λ (k : Known). times r k.view.reached) e, w.kept r, ap (λ (k : Known). times r k.view.reached) l.is);
-      lasting = λ r f x h. subst (λ (k : Known). IsKnown k.view.lasting r f x) (sym e) (w.lasting r f x (subst (λ (k : Known). IsKnown k.view.lasting r f x) (sym l.is) h));
-      present = λ x h. subst (λ (k : Known). Among x k.view.present) (sym e) (w.present x (subst (λ (k : Known). Among x k.view.present) (sym l.is) h));
-    }
-  where
-    last : new.view.seen ≡ b.view.seen
-    last = ap (λ (k : Known). k.view.seen) e
-
-    first : a.view.seen ≡ old.view.seen
-    first = ap (λ (k : Known). k.view.seen) l.is
-
-    go : SeesMore a.view b.view → SeesMore old.view new.view
-    go (inl q) = inl (last ∙ q ∙ first)
-    go (inr x) = inr (subst (Extends old.view) (sym last) (extends_on old.view a.view b.view.seen (ap (λ (k : Known). k.view.who) l.is) (ap (λ (k : Known). k.view.mine) l.is) (inl first) x))
-
-    sees : SeesMore old.view new.view
-    sees = go w.sees

@@ -1,7 +1,6 @@
 -- A write at a row whose child is of an earlier epoch.
-use Rattle.std.proofs.Common.{◌≡◌, ◌≢◌, ◌⊎◌, inl, inr, ℕ, ◌≤◌, List, [], ◌∷◌, ◌++◌, length, sym, ap, ◌∙◌, subst, arith}
+use Rattle.std.proofs.Common.{◌≡◌, ◌≢◌, ◌⊎◌, inl, inr, ℕ, List, [], ◌∷◌, ◌++◌, sym, ap, ◌∙◌, subst, arith}
 use Rattle.snap_copy.specs.Owning.{Owns, Lacks}
-use Rattle.snap_locks.specs.Held.{HasLocked}
 use Rattle.snap_rule.specs.State.{In}
 use Rattle.snap_rule.specs.declared.reader.Point.TheVariants.{Standing}
 use Rattle.snap_rule.specs.declared.reader.Reading.TheVariants.{On}
@@ -18,15 +17,14 @@ use Rattle.snap_steps.specs.Seen.{Known, Becomes}
 use Rattle.snap_steps.specs.States.{link_field}
 use Rattle.snap_steps.specs.Steps.Copies.{IsAbove}
 use Rattle.snap_steps.specs.Steps.Fields.{read}
-use Rattle.snap_steps.specs.Steps.Locks.{unlocked}
 use Rattle.snap_steps.specs.declared.view.WordNote.{WordNote}
 use Rattle.snap_steps.specs.declared.view.WordNote.TheVariants.{Next, Epoch}
-use Rattle.snap_update.specs.Attempts.{GoesOn, Brings}
+use Rattle.snap_update.specs.Answers.{GoesOn}
+use Rattle.snap_update.specs.Attempts.{Brings}
 use Rattle.snap_update.specs.Held.{Holds, IsStill}
-use Rattle.snap_update.specs.declared.attempt.Attempt.{Attempt}
-use Rattle.snap_update.specs.declared.attempt.Attempt.TheVariants.{Made, Again, Refused}
-use Rattle.snap_update.proofs.Going.{works_go, goes_on, goes_locked, copied_goes}
-use Rattle.snap_update.proofs.Holding.{held_once, knows_read, known_still, works_freed}
+use Rattle.snap_update.specs.declared.attempt.Attempt.TheVariants.{Again}
+use Rattle.snap_update.proofs.Going.{goes_on, goes_works, copied_goes, in_right}
+use Rattle.snap_update.proofs.Holding.{held_once, knows_read, known_still}
 
 -- the row is the place still, and its link leads to a child
 pub above : (old a b : Known) (key row stamp epoch x : ℕ) (side : Side) (f : Field) → Holds old.view row → IsReached old.view row → (row ≡ 0 → side ≡ Right) → AllAre key old.view.copies → old.view.place ≡ On key (Standing row stamp side) → IsStill old a row stamp epoch → Becomes a b (read a.view row f x) → f ≡ link_field side → x ≢ 0
@@ -68,22 +66,9 @@ above old a b key row stamp epoch x side f holds reached faces copies place stil
 pub looked : (old a b : Known) (row stamp epoch x : ℕ) (f : Field) → IsStill old a row stamp epoch → Becomes a b (read a.view row f x) → Works old b (Epoch epoch ∷ [])
 looked old a b row stamp epoch x f still e = works_on old a b (Epoch epoch ∷ []) [] still.works (word_works a b row f x e)
 
-pub brings_works : (old new : Known) (key : ℕ) (l : List WordNote) → Works old new l → (g : GoesOn old new key) × (length g.links.rows ≤ 1)
-brings_works old new key l w = (works_go old new key l w, omega arith)
+pub brings_own : (rows : ℕ) (old mid new : Known) (key row : ℕ) (side : Side) (c : ℕ) (l : List WordNote) → Works old mid l → Owns rows mid new key row side c → Brings rows old new key Again
+brings_own rows old mid new key row side c l w (inl h) = ([], l ++ Epoch h.epoch ∷ [], goes_on old mid new key [] [] l (Epoch h.epoch ∷ []) (goes_works old mid key l w) (goes_works mid new key (Epoch h.epoch ∷ []) h.works), omega arith)
+brings_own rows old mid new key row side c l w (inr h) = (c ∷ [], l ++ h.more, goes_on old mid new key [] (c ∷ []) l h.more (goes_works old mid key l w) (copied_goes mid new key row side c h), omega arith)
 
-pub brings_own : (rows : ℕ) (old mid new : Known) (key row : ℕ) (side : Side) (c : ℕ) (l : List WordNote) → Works old mid l → Owns rows mid new key row side c → (g : GoesOn old new key) × (length g.links.rows ≤ 1)
-brings_own rows old mid new key row side c l w (inl h) = (goes_on old mid new key (works_go old mid key l w) (works_go mid new key (Epoch h.epoch ∷ []) h.works), omega arith)
-brings_own rows old mid new key row side c l w (inr h) = (goes_on old mid new key (works_go old mid key l w) (copied_goes mid new key row side c h), omega arith)
-
-pub in_after : (n : WordNote) (l m : List WordNote) → In n m → In n (l ++ m)
-in_after n [] m h = h
-in_after n (x ∷ xs) m h = inr (in_after n xs m h)
-
-pub brings_none : (rows : ℕ) (old mid new : Known) (row : ℕ) (side : Side) (l : List WordNote) → Works old mid l → Lacks rows mid new row side → (more : List WordNote) × Works old new more × In (Next rows) more
-brings_none rows old mid new row side l w h = (l ++ h.more, works_on old mid new l h.more w h.works, in_after (Next rows) l h.more h.full)
-
--- between a lock and its release
-pub brings_locked : (rows : ℕ) (old a b new : Known) (key row : ℕ) (t : Attempt) → HasLocked old a row → Brings rows a b key t → Becomes b new (unlocked b.view row) → old.view.holds ≡ [] → Brings rows old new key t
-brings_locked rows old a b new key row (Made reply) l h e free = h
-brings_locked rows old a b new key row Again l h e free = (goes_locked old a b new key row l h.0 e free, h.1)
-brings_locked rows old a b new key row (Refused f) l h e free = (h.0, h.1, works_freed old a b new row h.1 l h.2 e free, h.3)
+pub brings_none : (rows : ℕ) (old mid new : Known) (key row : ℕ) (side : Side) (l : List WordNote) → Works old mid l → Lacks rows mid new row side → (more : List WordNote) × GoesOn old new key [] more × In (Next rows) more
+brings_none rows old mid new key row side l w h = (l ++ h.more, goes_works old new key (l ++ h.more) (works_on old mid new l h.more w h.works), in_right (Next rows) l h.more h.full)

@@ -3,45 +3,26 @@ use Rattle.std.specs.Prelude.{◌≡◌, ◌⊎◌, ℕ, ◌≤◌, List, [], No
 use Rattle.snap_model.specs.History.{told, call_key}
 use Rattle.snap_model.specs.declared.call.Call.{Call}
 use Rattle.snap_rule.specs.State.{In}
-use Rattle.snap_search.specs.Walk.{SeesMore}
-use Rattle.snap_search.specs.Work.{Works, NotesMore, KeepsPresent}
+use Rattle.snap_search.specs.Work.{Works}
 use Rattle.snap_steps.specs.Counting.{Among}
-use Rattle.snap_steps.specs.Rule.Epochs.{AllAre}
 use Rattle.snap_steps.specs.Seen.{Known}
 use Rattle.snap_steps.specs.declared.view.WordNote.{WordNote}
 use Rattle.snap_steps.specs.declared.view.WordNote.TheVariants.{Next}
-use Rattle.snap_update.specs.Answers.{written, LinksWhatItDraws, Writes, Refuses, RefusedFull, older_births}
+use Rattle.snap_update.specs.Answers.{GoesOn, Writes, Refuses, RefusedFull, older_births}
 use Rattle.snap_update.specs.declared.attempt.Attempt.{Attempt}
 use Rattle.snap_update.specs.declared.attempt.Attempt.TheVariants.{Made, Again, Refused}
 
--- the pass has gone on with its work
-abbrev pub WorksOn : Known → Known → Type 0
-WorksOn old new = (more : List WordNote) × Works old new more
-
--- a try at a place
+-- a try at a place: without its entry no row is drawn
 abbrev pub Attempts : ℕ → Known → Known → Call → Attempt → Type 0
 Attempts rows old new call (Made reply) = Writes old new call reply
-Attempts rows old new call Again = WorksOn old new
+Attempts rows old new call Again = (more : List WordNote) × GoesOn old new (call_key call) [] more
 Attempts rows old new call (Refused f) = (f.rows ≡ rows) × Refuses rows old new call
-
--- the pass has gone on with the write of this key without its entry, and each row that it drew is linked
-pub record GoesOn (old new : Known) (key : ℕ) : Type 0 where
-  pub is : new ≡ written old new.view
-  pub mine : new.view.mine ≡ old.view.mine
-  pub stage : new.view.stage ≡ old.view.stage
-  pub holds : new.view.holds ≡ old.view.holds
-  pub sees : SeesMore old.view new.view
-  pub links : LinksWhatItDraws old.view new.view
-  pub more : List WordNote
-  pub noted : NotesMore old.view new.view more
-  pub present : KeepsPresent old.view new.view
-  pub copies : AllAre key old.view.copies → AllAre key new.view.copies
 
 -- a try at a place whose child is of an earlier epoch: at most one row is drawn
 abbrev pub Brings : ℕ → Known → Known → ℕ → Attempt → Type 0
 Brings rows old new key (Made reply) = ⊥
-Brings rows old new key Again = (g : GoesOn old new key) × (length g.links.rows ≤ 1)
-Brings rows old new key (Refused f) = (f.rows ≡ rows) × (more : List WordNote) × Works old new more × In (Next rows) more
+Brings rows old new key Again = (drawn : List ℕ) × (more : List WordNote) × GoesOn old new key drawn more × (length drawn ≤ 1)
+Brings rows old new key (Refused f) = (f.rows ≡ rows) × (more : List WordNote) × GoesOn old new key [] more × In (Next rows) more
 
 -- no more rows were drawn than births were noted on the way of the key that are older than the epoch
 pub record HasMet (old new : Known) (key : ℕ) (rows : List ℕ) (more : List WordNote) : Type 0 where
@@ -53,7 +34,7 @@ pub record HasMet (old new : Known) (key : ℕ) (rows : List ℕ) (more : List W
 -- a try from the search on
 abbrev pub Tries : ℕ → Known → Known → Call → Attempt → Type 0
 Tries rows old new call (Made reply) = Writes old new call reply
-Tries rows old new call Again = (g : GoesOn old new (call_key call)) × HasMet old new (call_key call) g.links.rows g.more
+Tries rows old new call Again = (drawn : List ℕ) × (more : List WordNote) × GoesOn old new (call_key call) drawn more × HasMet old new (call_key call) drawn more
 Tries rows old new call (Refused f) = (f.rows ≡ rows) × (r : RefusedFull rows old new call) × ((e : ℕ) → Among e old.view.present → r.epoch ≡ e)
 
 -- so far no more rows were drawn than older births were noted
@@ -61,8 +42,11 @@ abbrev pub HasMetSo : Known → ℕ → List ℕ → List WordNote → Type 0
 HasMetSo now key rows more = (length rows ≡ 0) ⊎ ((e : ℕ) × Among e now.view.present × (length rows ≤ older_births key e more))
 
 -- tries so far
-abbrev pub KeepsTrying : Known → Known → ℕ → Type 0
-KeepsTrying old now key = (g : GoesOn old now key) × HasMetSo now key g.links.rows g.more
+pub record KeepsTrying (old now : Known) (key : ℕ) : Type 0 where
+  pub drawn : List ℕ
+  pub more : List WordNote
+  pub goes : GoesOn old now key drawn more
+  pub met : HasMetSo now key drawn more
 
 -- the end of a try for which no row was left: the key is absent at what the pass has now seen, or the place has to be looked for again
 abbrev pub RefusesOr : ℕ → Known → Known → ℕ → Attempt → Type 0

@@ -1,5 +1,6 @@
 -- A write at a row that it holds.
 use Rattle.std.specs.Prelude.{◌≡◌, ◌⊎◌, ℕ, ◌<◌, [], ◌∷◌, false, List}
+use Rattle.snap_rule.specs.Debt.{no_debt}
 use Rattle.snap_rule.specs.declared.change.Doing.TheVariants.{Nothing}
 use Rattle.snap_search.specs.Work.{Works}
 use Rattle.snap_stamp.specs.declared.layout.Field.TheVariants.{Stamp}
@@ -13,11 +14,12 @@ use Rattle.snap_steps.specs.declared.view.WordNote.TheVariants.{Epoch}
 use Rattle.snap_steps.specs.declared.view.Stage.TheVariants.{Writing}
 use Rattle.snap_steps.specs.declared.view.View.{View}
 
--- in a write without its entry, no row is held, and copies were made for no other key
+-- in a write without its entry, no row is held, nothing is owed, and copies were made for no other key
 pub record IsReady (v : View) (key : ℕ) : Type 0 where
   pub writing : v.stage ≡ Writing false false
   pub free : v.holds ≡ []
   pub whole : v.doing ≡ Nothing
+  pub owes : v.debt ≡ no_debt
   pub copies : AllAre key v.copies
 
 -- one row is held

@@ -2,6 +2,7 @@
 ghost use Rattle.std.specs.Prelude.{◌≡◌, ◌<◌, ◌≤◌, ◌+◌, ◌^◌, false};
 ghost use Rattle.snap_model.specs.History.{call_key};
 ghost use Rattle.snap_model.specs.declared.call.Call.TheVariants.{Put};
+ghost use Rattle.snap_rule.specs.Debt.{no_debt};
 ghost use Rattle.snap_rule.specs.declared.change.Doing.TheVariants.{Nothing};
 ghost use Rattle.snap_rule.specs.declared.reader.Point.TheVariants.{NoLink};
 ghost use Rattle.snap_rule.specs.declared.reader.Reading.TheVariants.{On};
@@ -64,6 +65,7 @@ fn enter_below<R: Wait>(
     requires held { Holds pass.old.view row }
     requires writing { pass.old.view.stage ≡ Writing false false }
     requires whole { pass.old.view.doing ≡ Nothing }
+    requires owes { pass.old.view.debt ≡ no_debt }
     requires way { pass.old.view.reads ≡ On (call_key call.now) (NoLink row stamp side) }
     requires copies { AllAre (call_key call.now) pass.old.view.copies }
     requires value { FitsWord call.now }
@@ -100,6 +102,7 @@ fn hang<R: Wait>(
     requires row { row ≤ rows.now.rows }
     requires writing { pass.old.view.stage ≡ Writing false false }
     requires whole { pass.old.view.doing ≡ Nothing }
+    requires owes { pass.old.view.debt ≡ no_debt }
     requires place { IsPlace pass.old.view key row (link_field side) }
     requires way { pass.old.view.reads ≡ On key (NoLink row stamp side) }
     requires copies { AllAre key pass.old.view.copies }
@@ -121,6 +124,7 @@ fn hang<R: Wait>(
 fn fill(rows: &Rows, pass: &mut Pass, leaf: RowNo, key: Key, value: u64, epoch: u64)
     requires table { IsOf pass.old rows.now }
     requires row { leaf ≤ rows.now.rows }
+    requires whole { pass.old.view.doing ≡ Nothing }
     requires own { 0 < times leaf pass.old.view.own }
     requires epoch { 0 < times epoch pass.old.view.present }
     requires value { value + 1 < 2 ^ 64 }

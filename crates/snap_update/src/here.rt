@@ -1,6 +1,7 @@
 //! A write at a row that has the key.
 ghost use Rattle.std.specs.Prelude.{◌≡◌, ◌≢◌, ◌<◌, ◌≤◌, false};
 ghost use Rattle.snap_model.specs.History.{call_key};
+ghost use Rattle.snap_rule.specs.Debt.{no_debt};
 ghost use Rattle.snap_rule.specs.declared.change.Doing.TheVariants.{Nothing};
 ghost use Rattle.snap_rule.specs.Tree.{value_of};
 ghost use Rattle.snap_steps.specs.Counting.{times};
@@ -47,6 +48,8 @@ fn store_here(rows: &Rows, pass: &mut Pass, call: &Call, row: RowNo, stamp: Stam
     requires reached { 0 < times row pass.old.view.reached }
     requires held { Holds pass.old.view row }
     requires writing { pass.old.view.stage ≡ Writing false false }
+    requires whole { pass.old.view.doing ≡ Nothing }
+    requires owes { pass.old.view.debt ≡ no_debt }
     requires copies { AllAre (call_key call.now) pass.old.view.copies }
     requires value { FitsWord call.now }
     ensures { Attempts rows.now.rows pass.old pass.new call.now result }

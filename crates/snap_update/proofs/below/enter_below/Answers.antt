@@ -8,13 +8,15 @@ use Rattle.snap_search.proofs.Working.{works_on, word_works}
 use Rattle.snap_steps.specs.declared.view.WordNote.TheVariants.{Epoch}
 use Rattle.snap_update.specs.Attempts.{Attempts}
 use Rattle.snap_update.proofs.Filling.{places}
+use Rattle.snap_update.proofs.Going.{goes_works}
 use Rattle.snap_update.proofs.Trying.{attempts_after}
 use Rattle.snap_update.proofs.below.enter_below.Goals as goal
 
 pub returns-then-load_word-ne0 : goal.returns-then-load_word-ne0
 returns-then-load_word-ne0 g c =
     let a = c.epoch_of_place.new.pass in let b = c.load_word.new.pass in
-    (Epoch c.in-Some.epoch ∷ [], works_on c.args.pass.now a b (Epoch c.in-Some.epoch ∷ []) [] c.in-Some.ensures.works (word_works a b c.args.row c.link_of.result c.load_word.result c.load_word.ensures.pass))
+    let l = Epoch c.in-Some.epoch ∷ [] in
+    (l, goes_works c.args.pass.now b (call_key c.args.call.now) l (works_on c.args.pass.now a b l [] c.in-Some.ensures.works (word_works a b c.args.row c.link_of.result c.load_word.result c.load_word.ensures.pass)))
 
 pub hang-requires-clause-place : goal.hang-requires-clause-place
 hang-requires-clause-place g c =
@@ -33,4 +35,4 @@ returns-in-Put g c =
     let a = c.epoch_of_place.new.pass in let b = c.load_word.new.pass in
     let works = works_on c.args.pass.now a b (Epoch c.in-Some.epoch ∷ []) [] c.in-Some.ensures.works (word_works a b c.args.row c.link_of.result c.load_word.result c.load_word.ensures.pass) in
     subst (λ (x : Call). Attempts c.args.rows.now.rows c.args.pass.now c.hang.new.pass x c.hang.result) (sym c.in-Put.is)
-    (attempts_after c.args.rows.now.rows c.args.pass.now b c.hang.new.pass (Epoch c.in-Some.epoch ∷ []) (Put c.in-Put.key c.in-Put.value) c.hang.result works c.hang.ensures)
+    (attempts_after c.args.rows.now.rows c.args.pass.now b c.hang.new.pass (Epoch c.in-Some.epoch ∷ []) (Put c.in-Put.key c.in-Put.value) c.hang.result (goes_works c.args.pass.now b c.in-Put.key (Epoch c.in-Some.epoch ∷ []) works) c.hang.ensures)

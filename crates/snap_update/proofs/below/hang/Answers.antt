@@ -4,7 +4,7 @@ use Rattle.snap_update.proofs.Trying.{refuses_put}
 use Rattle.snap_update.proofs.below.hang.Goals as goal
 
 pub fill-requires-clause-row : goal.fill-requires-clause-row
-fill-requires-clause-row g c = c.in-Ok.ensures.2
+fill-requires-clause-row g c = c.in-Ok.ensures.2.1
 
 pub returns-in-Ok : goal.returns-in-Ok
 returns-in-Ok g c = let e = c.link_leaf.ensures in

@@ -11,6 +11,7 @@ use Rattle.snap_steps.specs.declared.view.WordNote.TheVariants.{Epoch}
 use Rattle.snap_update.specs.Answers.{Writes}
 use Rattle.snap_update.specs.Held.{IsStill}
 use Rattle.snap_update.proofs.Entering.{stores_here, confirms_here, writes_after}
+use Rattle.snap_update.proofs.Going.{goes_works}
 use Rattle.snap_update.proofs.here.store_here.Goals as goal
 
 -- the loads before the entry
@@ -25,7 +26,7 @@ returns-then-word-eq0 c =
     let same : c.in-Remove.wanted ≡ c.load_key-key.result = search rules in
     let is : c.args.call.now ≡ Remove c.load_key-key.result = c.in-Remove.is ∙ ap (λ (k : ℕ). Remove k) same in
     let e = c.confirm_absent.ensures in
-    subst (λ (x : Call). Writes old new x None) (sym is) (writes_after old d new (Epoch epoch ∷ []) (Remove c.load_key-key.result) None works (confirms_here d new (Remove c.load_key-key.result) None e.0 e.1 e.2))
+    subst (λ (x : Call). Writes old new x None) (sym is) (writes_after old d new c.load_key-key.result [] (Epoch epoch ∷ []) (Remove c.load_key-key.result) None (goes_works old d c.load_key-key.result (Epoch epoch ∷ []) works) (confirms_here d new (Remove c.load_key-key.result) None e.0 e.1 e.2))
 
 pub returns-else-wanted-key : goal.returns-else-wanted-key
 returns-else-wanted-key c =
@@ -38,7 +39,7 @@ returns-else-wanted-key c =
     let made : Writes d new (call_of c.load_key-key.result (c.in-Put.value + 1)) (value_of c.store_value.result) = stores_here d new (call_of c.load_key-key.result (c.in-Put.value + 1)) (value_of c.store_value.result) e.0 c.args.row (c.in-Put.value + 1) e.1 e.2 in
     let as_put : Writes d new (Put c.load_key-key.result c.in-Put.value) (value_of c.store_value.result) = subst (λ (n : ℕ). Writes d new (call_of c.load_key-key.result n) (value_of c.store_value.result)) (add-one c.in-Put.value) made in
     subst (λ (r : Option ℕ). Writes old new c.args.call.now r) (sym c.value_of.ensures)
-    (subst (λ (x : Call). Writes old new x (value_of c.store_value.result)) (sym is) (writes_after old d new (Epoch epoch ∷ []) (Put c.load_key-key.result c.in-Put.value) (value_of c.store_value.result) works as_put))
+    (subst (λ (x : Call). Writes old new x (value_of c.store_value.result)) (sym is) (writes_after old d new c.load_key-key.result [] (Epoch epoch ∷ []) (Put c.load_key-key.result c.in-Put.value) (value_of c.store_value.result) (goes_works old d c.load_key-key.result (Epoch epoch ∷ []) works) as_put))
 
 pub returns-else-word-eq0 : goal.returns-else-word-eq0
 returns-else-word-eq0 c =
@@ -50,4 +51,4 @@ returns-else-word-eq0 c =
     let e = c.store_value-in-Remove.ensures.entry in
     let made : Writes d new (Remove c.load_key-key.result) (value_of c.store_value-in-Remove.result) = stores_here d new (Remove c.load_key-key.result) (value_of c.store_value-in-Remove.result) e.0 c.args.row 0 e.1 e.2 in
     subst (λ (r : Option ℕ). Writes old new c.args.call.now r) (sym c.value_of-in-Remove.ensures)
-    (subst (λ (x : Call). Writes old new x (value_of c.store_value-in-Remove.result)) (sym is) (writes_after old d new (Epoch epoch ∷ []) (Remove c.load_key-key.result) (value_of c.store_value-in-Remove.result) works made))
+    (subst (λ (x : Call). Writes old new x (value_of c.store_value-in-Remove.result)) (sym is) (writes_after old d new c.load_key-key.result [] (Epoch epoch ∷ []) (Remove c.load_key-key.result) (value_of c.store_value-in-Remove.result) (goes_works old d c.load_key-key.result (Epoch epoch ∷ []) works) made))

@@ -1,4 +1,4 @@
-use Rattle.snap_update.proofs.Sharing.{brings_locked}
+use Rattle.snap_update.proofs.Trying.{brings_locked}
 use Rattle.snap_update.proofs.shared.own_below.Goals as goal
 
 pub returns : goal.returns

@@ -1,11 +1,13 @@
-use Rattle.std.proofs.Common.{rules, ◌≢◌, [], ◌∷◌}
+use Rattle.std.proofs.Common.{rules, arith, ◌≢◌, [], ◌∷◌}
 use Rattle.snap_steps.specs.declared.view.WordNote.TheVariants.{Epoch}
-use Rattle.snap_update.proofs.Sharing.{above, looked, brings_works, brings_own, brings_none}
+use Rattle.snap_update.proofs.Going.{goes_works}
+use Rattle.snap_update.proofs.Sharing.{above, looked, brings_own, brings_none}
 use Rattle.snap_update.proofs.shared.own_held.Goals as goal
 
 pub returns-then-load_word-eq0 : goal.returns-then-load_word-eq0
 returns-then-load_word-eq0 g c =
-    brings_works c.args.pass.now c.load_word.new.pass c.args.key (Epoch c.in-Some.field-0 ∷ []) (looked c.args.pass.now c.epoch_of_place.new.pass c.load_word.new.pass c.args.row c.args.stamp c.in-Some.field-0 c.load_word.result c.link_of.result c.in-Some.ensures c.load_word.ensures.pass)
+    let l = Epoch c.in-Some.field-0 ∷ [] in
+    ([], l, goes_works c.args.pass.now c.load_word.new.pass c.args.key l (looked c.args.pass.now c.epoch_of_place.new.pass c.load_word.new.pass c.args.row c.args.stamp c.in-Some.field-0 c.load_word.result c.link_of.result c.in-Some.ensures c.load_word.ensures.pass), omega arith)
 
 pub own_child-requires-clause-place : goal.own_child-requires-clause-place
 own_child-requires-clause-place g c =
@@ -18,8 +20,8 @@ returns-in-Ok g c =
 
 pub returns-in-Err : goal.returns-in-Err
 returns-in-Err g c =
-    let t = brings_none c.args.rows.now.rows c.args.pass.now c.load_word.new.pass c.own_child.new.pass c.args.row c.args.side (Epoch c.in-Some.field-0 ∷ []) (looked c.args.pass.now c.epoch_of_place.new.pass c.load_word.new.pass c.args.row c.args.stamp c.in-Some.field-0 c.load_word.result c.link_of.result c.in-Some.ensures c.load_word.ensures.pass) c.in-Err.ensures.1 in
+    let t = brings_none c.args.rows.now.rows c.args.pass.now c.load_word.new.pass c.own_child.new.pass c.args.key c.args.row c.args.side (Epoch c.in-Some.field-0 ∷ []) (looked c.args.pass.now c.epoch_of_place.new.pass c.load_word.new.pass c.args.row c.args.stamp c.in-Some.field-0 c.load_word.result c.link_of.result c.in-Some.ensures c.load_word.ensures.pass) c.in-Err.ensures.1 in
     (c.in-Err.ensures.0, t.0, t.1, t.2)
 
 pub returns-in_default : goal.returns-in_default
-returns-in_default g c = brings_works c.args.pass.now c.epoch_of_place.new.pass c.args.key (Epoch c.in_default.ensures.epoch ∷ []) c.in_default.ensures.works
+returns-in_default g c = let l = Epoch c.in_default.ensures.epoch ∷ [] in ([], l, goes_works c.args.pass.now c.epoch_of_place.new.pass c.args.key l c.in_default.ensures.works, omega arith)

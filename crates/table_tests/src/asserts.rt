@@ -1,0 +1,9 @@
+//! What a test says of a value, in a function of its own: an `assert_eq!` makes the function that it stands in longer to
+//! prove, by more the longer that is.
+use std::fmt;
+use std::process::Abort;
+
+/// What was found is what is wanted.
+pub(crate) fn is<R: Abort, T: PartialEq + fmt::Debug + Drop>(rt: &R, found: T, want: T) {
+    assert_eq!(rt; found, want);
+}
