@@ -1,5 +1,5 @@
--- A count that stands still at its type's end.
-use Rattle.std.proofs.Common.{◌≡◌, ℕ, ◌+◌, min, ◌∷◌, length, ap, arith}
+-- A count of pairs.
+use Rattle.std.proofs.Common.{◌≡◌, ℕ, ◌+◌, ◌∷◌, length, ap, arith}
 use Rattle.snap_view.specs.Walks.{pairs_left}
 use Rattle.snap_view.specs.declared.ascend.Ascend.{Ascend}
 
@@ -7,7 +7,7 @@ use Rattle.snap_view.specs.declared.ascend.Ascend.{Ascend}
 pub record HasCounted (total found : ℕ) (left : Ascend) : Type 0 where
   pub passed : ℕ
   pub all : passed + length (pairs_left left) ≡ total
-  pub counted : found ≡ min passed 18446744073709551615
+  pub counted : found ≡ passed
 
-pub counted_on : (total found : ℕ) (a b : Ascend) (p : ℕ × ℕ) → HasCounted total found a → pairs_left a ≡ p ∷ pairs_left b → HasCounted total (min (found + 1) 18446744073709551615) b
+pub counted_on : (total found : ℕ) (a b : Ascend) (p : ℕ × ℕ) → HasCounted total found a → pairs_left a ≡ p ∷ pairs_left b → HasCounted total (found + 1) b
 counted_on total found a b p c e = record { passed = c.passed + 1; all = omega (arith, c.all, ap length e); counted = omega (arith, c.counted) }

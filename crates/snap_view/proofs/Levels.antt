@@ -1,5 +1,5 @@
 -- How many nodes stand on the ways down a tree.
-use Rattle.std.proofs.Common.{◌≡◌, ℕ, ◌+◌, ◌<◌, ◌≤◌, ◌^◌, max, min, true, false, leb, Option, Some, None, refl, sym, ap, ◌∙◌, subst, arith}
+use Rattle.std.proofs.Common.{◌≡◌, ℕ, ◌+◌, ◌<◌, ◌≤◌, ◌^◌, max, true, false, leb, Option, Some, None, refl, sym, ap, ◌∙◌, subst, arith}
 use Rattle.std.proofs.lemmas.Bool.{le-leb, lt-leb}
 use native.Mathlib.Decide.{dec_lt}
 use mathlib.Core.Logic.{dite}
@@ -85,13 +85,13 @@ past_fits (Some p) (Some next) e = e.1
 
 pub record HasSounded (t : Tree) (next : Option ℕ) (best : ℕ) : Type 0 where
   pub fits : FitsKey next
-  pub least : best ≤ min (depth t) 18446744073709551615
-  pub each : (k : ℕ) → k < 2 ^ 64 → Before next k → min (levels Right k t) 18446744073709551615 ≤ best
+  pub least : best ≤ depth t
+  pub each : (k : ℕ) → k < 2 ^ 64 → Before next k → levels Right k t ≤ best
 
 pub sounded_none : (t : Tree) → HasSounded t (Some 0) 0
 sounded_none t = record { fits = omega arith; least = omega arith; each = λ k l b. absurd (omega arith) }
 
-pub sounded_on : (t : Tree) → Between 0 (2 ^ 64) t → (from best level : ℕ) (row : Option (ℕ × Option ℕ)) (next : Option ℕ) → HasSounded t (Some from) best → row ≡ nearest_row Right from t → level ≡ min (levels Right from t) 18446744073709551615 → IsPast row next → HasSounded t next (max best level)
+pub sounded_on : (t : Tree) → Between 0 (2 ^ 64) t → (from best level : ℕ) (row : Option (ℕ × Option ℕ)) (next : Option ℕ) → HasSounded t (Some from) best → row ≡ nearest_row Right from t → level ≡ levels Right from t → IsPast row next → HasSounded t next (max best level)
 sounded_on t h from best level row next s is counts past = record {
   fits = past_fits row next past;
   least = omega (arith, s.least, counts, levels_within Right from t);
@@ -103,7 +103,7 @@ sounded_on t h from best level row next s is counts past = record {
     go (Some p) None e k l b = omega arith
     go (Some p) (Some m) e k l b = omega (arith, e.0)
 
-pub sounded_all : (t : Tree) → Between 0 (2 ^ 64) t → (best : ℕ) → HasSounded t None best → best ≡ min (depth t) 18446744073709551615
+pub sounded_all : (t : Tree) → Between 0 (2 ^ 64) t → (best : ℕ) → HasSounded t None best → best ≡ depth t
 sounded_all t h best s = dite (dec_lt 0 (depth t))
     (λ some. let d = deepest 0 (2 ^ 64) t h some in omega (arith, s.least, s.each d.from d.below tt, d.is))
     (λ none. omega (arith, s.least))

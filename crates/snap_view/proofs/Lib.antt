@@ -3,8 +3,10 @@ pub mod Nearing
 pub mod Ranges
 pub mod Neighbours
 pub mod Walking
+pub mod Balances
 pub mod Seeking
 pub mod Passing
 pub mod Levels
 pub mod Counts
 pub mod Blanks
+pub mod Sizes

@@ -1,9 +1,9 @@
 -- The way down a clone's tree.
-use Rattle.std.proofs.Common.{◌≡◌, ◌≢◌, ℕ, ◌+◌, ◌<◌, ◌≤◌, ◌^◌, min, Bool, true, false, Option, Some, None, refl, sym, ap, ◌∙◌, subst, arith}
+use Rattle.std.proofs.Common.{◌≡◌, ◌≢◌, ℕ, ◌+◌, ◌<◌, ◌≤◌, ◌^◌, Bool, true, false, Option, Some, None, refl, sym, ap, ◌∙◌, subst, arith}
 use Rattle.std.specs.Prelude.{if◌then◌else◌}
 use Rattle.snap_model.specs.History.{after}
 use Rattle.snap_model.specs.SortedMap.{Pairs, at}
-use Rattle.snap_rule.specs.Tree.{Tree, Node, Between, depth, find, root}
+use Rattle.snap_rule.specs.Tree.{Tree, Node, Between, depth, find, root, size}
 use Rattle.snap_rule.specs.Tree.Tree.{node}
 use Rattle.snap_rule.proofs.Pairs.{find_at}
 use Rattle.snap_rule.proofs.Trees.{child, find_here}
@@ -14,6 +14,8 @@ use Rattle.snap_steps.specs.declared.clones.RowCopy.{RowCopy}
 use Rattle.snap_view.specs.Nearest.{reaches, IsNearest, turn, on, or_else, if_reached, nearest_row, levels}
 use Rattle.snap_view.specs.Tops.{HasTop, HasTree, IsTopOf, rows_read}
 use Rattle.snap_view.specs.declared.way.WayDown.{WayDown}
+use Rattle.snap_rule.proofs.Trees.Sizes.{depth_size}
+use Rattle.snap_view.proofs.Levels.{levels_within}
 use Rattle.snap_view.proofs.Nearing.{nearest_is, same_nearest}
 use Rattle.snap_view.proofs.Within.{within_itself, levels_below, levels_are, next_tree, next_within, next_root, next_depth, next_find}
 
@@ -41,7 +43,7 @@ pub record Descends (t : Tree) (side : Side) (from : ℕ) (here : Option RowCopy
   pub same : nearest_row side from t ≡ or_else (nearest_row side from tree) way.row
   pub passed : ℕ
   pub all : passed + levels side from tree ≡ levels side from t
-  pub counted : way.levels ≡ min passed 18446744073709551615
+  pub counted : way.levels ≡ passed
   pub cost : now ≡ before + passed + rows_read here
 
 pub seeks_from : (t : Tree) (key : ℕ) (here : Option RowCopy) (before now : ℕ) → IsTopOf t here → now ≡ before + rows_read here → Seeks t key here before now
@@ -102,7 +104,7 @@ pub seeks_none : (t : Tree) (key before now : ℕ) → Seeks t key None before n
 seeks_none t key before now s = (ap (λ (z : Tree). find z key) (sym s.top) ∙ s.same, omega (arith, s.cost))
 
 pub descends_on : (t : Tree) (side : Side) (from : ℕ) (copy : RowCopy) (way way' : WayDown) (before now : ℕ) (next : Option RowCopy) (after_it : ℕ) → Descends t side from (Some copy) way before now
-    → way'.row ≡ (if reaches side from copy.key then Some (copy.key, copy.value) else way.row) → way'.levels ≡ min (way.levels + 1) 18446744073709551615
+    → way'.row ≡ (if reaches side from copy.key then Some (copy.key, copy.value) else way.row) → way'.levels ≡ way.levels + 1
     → TopsAt t (next_row side from copy) next → after_it ≡ now + rows_read next → Descends t side from next way' before after_it
 descends_on t side from copy way way' before now next after_it s row counts tops read =
     let h = s.top in let n : Node = h.top in let below : Tree = next_tree side from n h.left h.right in
@@ -138,13 +140,17 @@ descends_on t side from copy way way' before now next after_it s row counts tops
         go true = refl
         go false = refl
 
-pub descends_end : (t : Tree) (side : Side) (from : ℕ) (way : WayDown) (before now : ℕ) → Descends t side from None way before now → record { row : way.row ≡ nearest_row side from t; counts : way.levels ≡ min (levels side from t) 18446744073709551615; cost : now ≡ before + levels side from t }
+pub descends_end : (t : Tree) (side : Side) (from : ℕ) (way : WayDown) (before now : ℕ) → Descends t side from None way before now → record { row : way.row ≡ nearest_row side from t; counts : way.levels ≡ levels side from t; cost : now ≡ before + levels side from t }
 descends_end t side from way before now s =
     let ends : levels side from s.tree ≡ 0 = ap (levels side from) s.top in record {
       row = sym (s.same ∙ ap (λ (z : Tree). or_else (nearest_row side from z) way.row) s.top);
       counts = omega (arith, s.all, s.counted, ends);
       cost = omega (arith, s.all, s.cost, ends);
     }
+
+-- no more rows were passed than the tree has
+pub descends_low : (t : Tree) (side : Side) (from : ℕ) (copy : RowCopy) (way : WayDown) (before now : ℕ) → Descends t side from (Some copy) way before now → way.levels + 1 ≤ size t
+descends_low t side from copy way before now s = omega (arith, s.all, s.counted, ap (levels side from) s.top.is, levels_within side from t, depth_size t)
 
 -- what the tree tells of the map
 pub value_told : (c : Cloned) (key : ℕ) → IsCloneOf c.base (image c) → find (image c) key ≡ at (after c.base) key

@@ -2,3 +2,4 @@ pub mod Readable
 pub mod Tops
 pub mod Nearest
 pub mod Walks
+pub mod Balances

@@ -1,10 +1,11 @@
 -- A clone that can be read.
-use Rattle.snap_steps.specs.Clones.{ArePlaced, Cloned, image, IsCloneOf}
+use Rattle.snap_steps.specs.Clones.{ArePlaced, Cloned, image, IsCloneOf, IsWeighed}
 use Rattle.snap_steps.specs.Copies.{IsCloneAt}
 use Rattle.snap_steps.specs.Seen.{Laid}
 
--- the seat is of that table, and its tree tells the map after its base
+-- the seat is of that table, its tree tells the map after its base and has no more rows than were handed out, and it is settled or is known why not
 pub record IsReadable (rows : Laid) (seat : Cloned) : Type 0 where
   pub at : IsCloneAt seat rows
   pub clone : IsCloneOf seat.base (image seat)
   pub placed : ArePlaced seat.rows (image seat)
+  pub weighed : IsWeighed seat.rows seat.next (image seat) seat.balance

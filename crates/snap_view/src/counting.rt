@@ -1,7 +1,8 @@
 //! How many pairs a clone has in a range, and how deep its tree is.
-ghost use Rattle.std.specs.Prelude.{◌≡◌, ◌-◌, ◌^◌, min};
+ghost use Rattle.std.specs.Prelude.{◌≡◌, ◌≤◌, ◌<◌, ◌*◌, ◌^◌, length};
 ghost use Rattle.snap_model.specs.History.{after};
 ghost use Rattle.snap_model.specs.SortedMap.{count};
+ghost use Rattle.snap_rule.specs.Settled.{IsSettledTree, least};
 ghost use Rattle.snap_rule.specs.Tree.{depth};
 ghost use Rattle.snap_steps.specs.Clones.{image};
 ghost use Rattle.snap_view.specs.Nearest.{IsPast};
@@ -23,27 +24,30 @@ fn past(row: Option<(Key, Option<u64>)>) -> Option<Key>
 }
 
 impl<'t> TableView<'t> {
-    /// How many pairs have a key from `low` to `high`. It goes down once for each row there, and stands still at
-    /// 2^64 - 1.
+    /// How many pairs have a key from `low` to `high`. It goes down once for each row there.
     pub fn count(&mut self, low: Key, high: Key) -> u64
-        ensures count { result ≡ min (count (after self.old.base) low high) (2 ^ 64 - 1) }
+        ensures count { result ≡ count (after self.old.base) low high }
         ensures view { self.new ≡ self.old }
     {
+        let _last = self.seat.next();
         let mut found: u64 = 0;
         for _ in self.range(low, high) {
-            found = found.saturating_add(1);
+            found += 1;
         }
         found
     }
 
     /// How many rows stand on the longest way down, 0 for an empty clone. It goes down once for each row, without a
-    /// stack, and stands still at 2^64 - 1.
-    pub fn depth(&mut self) -> u64
-        ensures depth { result ≡ min (depth (image self.old)) (2 ^ 64 - 1) }
+    /// stack. A settled clone is no deeper than an AVL tree of twice its pairs.
+    pub fn depth(&mut self) -> u32
+        ensures depth { result ≡ depth (image self.old) }
+        ensures low { result ≤ self.old.next }
+        ensures pairs { length (after self.old.base) < 2 ^ result }
+        ensures shallow { IsSettledTree (image self.old) → least result ≤ 2 * length (after self.old.base) }
         ensures view { self.new ≡ self.old }
     {
-        let _rows = self.rows;
-        let mut deepest: u64 = 0;
+        let _last = self.seat.next();
+        let mut deepest: u32 = 0;
         let mut next = Some(0);
         while let Some(from) = next {
             let way = self.way_from::<Brand>(Blank::new(1), from);

@@ -3,6 +3,7 @@
 #![tactic(auto)]
 
 mod ascend;
+mod balance;
 mod counting;
 mod descend;
 mod nearest;
@@ -11,5 +12,6 @@ mod table_view;
 mod way;
 
 pub use ascend::Ascend;
+pub use balance::Settled;
 pub use descend::Descend;
 pub use table_view::TableView;

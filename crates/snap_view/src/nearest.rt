@@ -1,5 +1,5 @@
 //! The row of a clone that is nearest to a key, on one side of it.
-ghost use Rattle.std.specs.Prelude.{◌≡◌, ◌≤◌, ◌+◌, ◌-◌, ◌*◌, ◌^◌, ◌<◌, min};
+ghost use Rattle.std.specs.Prelude.{◌≡◌, ◌≤◌, ◌+◌, ◌*◌, ◌<◌};
 ghost use Rattle.snap_model.specs.History.{after};
 ghost use Rattle.snap_model.specs.SortedMap.{at};
 ghost use Rattle.snap_rule.specs.Settled.{IsSettledTree};
@@ -23,11 +23,12 @@ impl<'t> TableView<'t> {
         steps: &mut Steps<L>,
     ) -> WayDown
         ensures row { result.row ≡ nearest_row side from (image self.old) }
-        ensures levels { result.levels ≡ min (levels side from (image self.old)) (2 ^ 64 - 1) }
+        ensures levels { result.levels ≡ levels side from (image self.old) }
         ensures clone { IsCloneOf self.old.base (image self.old) }
         ensures view { self.new ≡ self.old }
         ensures steps { steps.new ≡ steps.old + levels side from (image self.old) }
     {
+        let _last = self.seat.next();
         let mut way = WayDown {
             row: None,
             levels: 0,
@@ -36,7 +37,7 @@ impl<'t> TableView<'t> {
         while let Some(copy) = here {
             way = WayDown {
                 row: nearer(way.row, &copy, side, from),
-                levels: way.levels.saturating_add(1),
+                levels: way.levels + 1,
             };
             here = self.row_at(below(&copy, side, from), steps);
         }
@@ -108,7 +109,7 @@ impl<'t> TableView<'t> {
         requires parts { blank.parts ≡ L.parts }
         requires some { 0 < blank.parts }
         ensures row { result.row ≡ nearest_row Right from (image self.old) }
-        ensures levels { result.levels ≡ min (levels Right from (image self.old)) (2 ^ 64 - 1) }
+        ensures levels { result.levels ≡ levels Right from (image self.old) }
         ensures view { self.new ≡ self.old }
     {
         let mut steps = Steps::<L>::new(blank);

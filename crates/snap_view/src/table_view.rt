@@ -20,7 +20,7 @@ use std::sync::ledger::Ledger;
 #[derive(Drop)]
 pub struct TableView<'t> {
     pub(crate) rows: &'t Rows,
-    seat: ViewSeat,
+    pub(crate) seat: ViewSeat,
 }
 
 impl<'t> Model for TableView<'t> {

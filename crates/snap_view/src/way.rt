@@ -10,7 +10,7 @@ use snap_steps::RowCopy;
 #[derive(Drop)]
 pub struct WayDown {
     pub row: Option<(Key, Option<u64>)>,
-    pub levels: u64,
+    pub levels: u32,
 }
 
 // Whether the key is `from` or lies on that side of it.
