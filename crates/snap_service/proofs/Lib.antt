@@ -1,4 +1,12 @@
-pub mod Loading
-pub mod Running
+pub mod Notes
+pub mod Tracks
+pub mod Bridge
+pub mod Covered
+pub mod Using
+pub mod Ending
+pub mod Admitting
+pub mod Uses
+pub mod Fresh
+pub mod Opening
 pub mod Slots
 pub mod Scripts

@@ -7,11 +7,10 @@ use Rattle.snap_model.specs.declared.command.Command.TheVariants as command
 use Rattle.snap_text.specs.declared.script.Line.{Line}
 use Rattle.snap_text.specs.Clones.{Slots, all_free}
 use Rattle.snap_text.specs.Uses.{AllUseSlots, UsesSlots, slots_after}
-use Rattle.snap_service.specs.Tables.{Table}
-use Rattle.snap_service.specs.LoadFiles.{Loads}
-use Rattle.snap_service.specs.States.{opened}
+use Rattle.snap_text.specs.LoadFiles.{Loads}
+use Rattle.snap_service.specs.States.{State, free_slots}
 use Rattle.snap_service.specs.Runs.{CanRunAll}
-use Rattle.snap_service.proofs.Slots.{AllFitSlots, AllServed, FitsSlots, can_run_all, taken, taken_after}
+use Rattle.snap_service.proofs.Slots.{AllFitSlots, AllServed, FitsSlots, can_run_new, taken, taken_after}
 
 -- the mark of a slot that is there
 mark_of : (slots : Slots) (slot : ℕ) (place : Option (List ℕ)) (d : Bool) → slice_get slots slot ≡ Some place → get_or (taken slots) slot d ≡ is_some place
@@ -65,11 +64,11 @@ all_fit slots (line ∷ ls) uses = (
       (all_fit (slots_after slots line.command) ls uses.1),
 )
 
--- a script that uses its slots well, and that is served, can be run in a session that begins
-pub script_can_run : (names : List (List ℕ)) (tables : List Table) (loads : Loads) (ls : List Line)
+-- a script that uses its slots well, and that is served, can be run in any session without clones
+pub script_can_run : (names : List (List ℕ)) (loads : Loads) (ls : List Line)
     → AllUseSlots all_free ls
     → AllServed names loads (map (λ l. l.command) ls)
-    → CanRunAll (opened names tables) loads (map (λ l. l.command) ls)
+    → (s : State) → s.tables.names ≡ names → s.clones ≡ free_slots → CanRunAll s loads (map (λ l. l.command) ls)
 unfolding all_free
-script_can_run names tables loads ls uses served =
-    can_run_all (opened names tables) loads (map (λ (l : Line). l.command) ls) refl (all_fit all_free ls uses) served
+script_can_run names loads ls uses served s named free =
+    can_run_new s loads names (map (λ (l : Line). l.command) ls) named free (all_fit all_free ls uses) served

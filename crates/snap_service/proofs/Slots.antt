@@ -1,14 +1,16 @@
--- Which slots are taken decides whether commands can be run, where the named tables and files are there.
+-- Which slots are taken decides whether commands can be run, where the named tables and files are there and values fit.
 use Rattle.std.proofs.Common.{suc, zero, ◌≡◌, ◌<◌, ℕ, Bool, true, false, length, get_or, List, [], ◌∷◌, Option, Some, None, refl, sym, ◌∙◌, ap, subst, arith}
-use Rattle.std.specs.Prelude.{map, replicate, is_some, slice_index_or, slice_set, IsSome, IsNone}
+use Rattle.std.specs.Prelude.{All, map, replicate, is_some, slice_index_or, slice_set, IsSome, IsNone}
 use Rattle.std.proofs.lemmas.List.{length-set, map-set}
 use Rattle.snap_model.specs.declared.command.Command.{Command}
 use Rattle.snap_model.specs.declared.command.Command.TheVariants as command
-use Rattle.snap_service.specs.LoadFiles.{Loads, HasFile}
-use Rattle.snap_service.specs.States.{State, map_in_use, place_of, slots}
-use Rattle.snap_service.specs.Commands.{CanRun, state_after}
+use Rattle.snap_model.specs.declared.command.Reply.{Reply}
+use Rattle.snap_steps.specs.Clones.{Cloned}
+use Rattle.snap_steps.specs.Seen.{Known}
+use Rattle.snap_text.specs.LoadFiles.{Loads, HasFile, pairs_of}
+use Rattle.snap_service.specs.States.{State, free_slots, place_of, slots, with_pass, with_slot, with_use}
+use Rattle.snap_service.specs.Serving.{CanRun, FitsValue, Serves}
 use Rattle.snap_service.specs.Runs.{CanRunAll}
-use Rattle.snap_service.proofs.Running.{names-after}
 
 -- of each slot, whether it is taken
 abbrev pub taken : {X : Type 0} → List (Option X) → List Bool
@@ -53,10 +55,11 @@ abbrev pub AllFitSlots : List Bool → List Command → Type 0
 AllFitSlots marks [] = Unit {0}
 AllFitSlots marks (c ∷ cs) = FitsSlots marks c × AllFitSlots (taken_after marks c) cs
 
--- a session has the command, and the table or the file that it names
+-- a session has the command, the table or the file that it names, and room for its values
 abbrev pub IsServed : List (List ℕ) → Loads → Command → Type 0
 IsServed names loads (command.Table name) = IsSome (place_of names name)
-IsServed names loads (command.Load file) = HasFile loads file
+IsServed names loads (command.Put key value) = FitsValue value
+IsServed names loads (command.Load file) = HasFile loads file × All (λ (pair : ℕ × ℕ). FitsValue pair.1) (pairs_of loads file)
 IsServed names loads (command.Depth slot) = ⊥
 IsServed names loads _ = Unit {0}
 
@@ -75,9 +78,9 @@ unmarked [] i is = absurd cc
 unmarked (place ∷ places) zero is = (omega arith, is)
 unmarked (place ∷ places) (suc i) is = let rest = unmarked places i is in (omega (arith, rest.0), rest.1)
 
-can_run : (s : State) (loads : Loads) (c : Command) → length s.clones ≡ slots → FitsSlots (taken s.clones) c → IsServed s.names loads c → CanRun s loads c
+can_run : (s : State) (loads : Loads) (c : Command) → length s.clones ≡ slots → FitsSlots (taken s.clones) c → IsServed s.tables.names loads c → CanRun s loads c
 can_run s loads (command.Table name) places fits served = served
-can_run s loads (command.Put key value) places fits served = tt
+can_run s loads (command.Put key value) places fits served = served
 can_run s loads (command.Remove key) places fits served = tt
 can_run s loads (command.Get key) places fits served = tt
 can_run s loads (command.Snap slot name) places fits served = let free = unmarked s.clones slot fits in (omega (arith, free.0, places), free.1)
@@ -94,51 +97,58 @@ can_run s loads (command.Depth slot) places fits served = absurd served
 can_run s loads (command.Export slot lo hi file) places fits served = marked s.clones slot fits
 can_run s loads (command.Load file) places fits served = served
 
--- what a command does to the slots
-taken-after : (s : State) (loads : Loads) (c : Command) → taken (state_after s loads c).clones ≡ taken_after (taken s.clones) c
-taken-after s loads (command.Table name) = refl
-taken-after s loads (command.Put key value) = refl
-taken-after s loads (command.Remove key) = refl
-taken-after s loads (command.Get key) = refl
-taken-after s loads (command.Snap slot name) = map-set is_some s.clones slot (Some (map_in_use s))
-taken-after s loads (command.Forget slot name) = map-set is_some s.clones slot None
-taken-after s loads (command.See slot key) = refl
-taken-after s loads (command.First slot) = refl
-taken-after s loads (command.Last slot) = refl
-taken-after s loads (command.Floor slot key) = refl
-taken-after s loads (command.Lower slot key) = refl
-taken-after s loads (command.Ceiling slot key) = refl
-taken-after s loads (command.Higher slot key) = refl
-taken-after s loads (command.Count slot lo hi) = refl
-taken-after s loads (command.Depth slot) = refl
-taken-after s loads (command.Export slot lo hi file) = refl
-taken-after s loads (command.Load file) = refl
+-- what a command leaves of the slots and of the names
+record Leaves (a b : State) (marks : List Bool) : Type 0 where
+  pub marks_are : taken b.clones ≡ marks
+  pub places : length b.clones ≡ length a.clones
+  pub names : b.tables.names ≡ a.tables.names
 
-places-after : (s : State) (loads : Loads) (c : Command) → length (state_after s loads c).clones ≡ length s.clones
-places-after s loads (command.Table name) = refl
-places-after s loads (command.Put key value) = refl
-places-after s loads (command.Remove key) = refl
-places-after s loads (command.Get key) = refl
-places-after s loads (command.Snap slot name) = length-set s.clones slot (Some (map_in_use s))
-places-after s loads (command.Forget slot name) = length-set s.clones slot None
-places-after s loads (command.See slot key) = refl
-places-after s loads (command.First slot) = refl
-places-after s loads (command.Last slot) = refl
-places-after s loads (command.Floor slot key) = refl
-places-after s loads (command.Lower slot key) = refl
-places-after s loads (command.Ceiling slot key) = refl
-places-after s loads (command.Higher slot key) = refl
-places-after s loads (command.Count slot lo hi) = refl
-places-after s loads (command.Depth slot) = refl
-places-after s loads (command.Export slot lo hi file) = refl
-places-after s loads (command.Load file) = refl
+all_stay : (a : State) → Leaves a a (taken a.clones)
+all_stay a = record { marks_are = refl; places = refl; names = refl }
+
+pass_leaves : (a : State) (pass : Known) → Leaves a (with_pass a pass) (taken a.clones)
+pass_leaves a pass = record { marks_are = refl; places = refl; names = refl }
+
+use_leaves : (a : State) (name : List ℕ) → Leaves a (with_use a name) (taken a.clones)
+use_leaves a name = record { marks_are = refl; places = refl; names = refl }
+
+left_by : (a b made : State) (marks : List Bool) → b ≡ made → Leaves a made marks → Leaves a b marks
+left_by a b made marks is h = subst (λ (s : State). Leaves a s marks) (sym is) h
+
+leaves : (a : State) (loads : Loads) (c : Command) (r : Reply) (b : State) → Serves loads a c r b → Leaves a b (taken_after (taken a.clones) c)
+leaves a loads (command.Table name) r b h = left_by a b (with_use a name) (taken a.clones) h.1 (use_leaves a name)
+leaves a loads (command.Put key value) r b h = left_by a b (with_pass a h.0) (taken a.clones) h.1 (pass_leaves a h.0)
+leaves a loads (command.Remove key) r b h = left_by a b (with_pass a h.0) (taken a.clones) h.1 (pass_leaves a h.0)
+leaves a loads (command.Get key) r b h = left_by a b (with_pass a h.0) (taken a.clones) h.1 (pass_leaves a h.0)
+leaves a loads (command.Snap slot name) r b h =
+    let some : Option (ℕ × Cloned) = Some (a.in_use, h.2) in
+    left_by a b (with_slot (with_pass a h.1) slot some) (slice_set (taken a.clones) slot true) h.3 (record { marks_are = map-set is_some a.clones slot some; places = length-set a.clones slot some; names = refl })
+leaves a loads (command.Forget slot name) r b h = left_by a b (with_slot a slot None) (slice_set (taken a.clones) slot false) h.1 (record { marks_are = map-set is_some a.clones slot None; places = length-set a.clones slot None; names = refl })
+leaves a loads (command.See slot key) r b h = left_by a b a (taken a.clones) h.0 (all_stay a)
+leaves a loads (command.First slot) r b h = left_by a b a (taken a.clones) h.0 (all_stay a)
+leaves a loads (command.Last slot) r b h = left_by a b a (taken a.clones) h.0 (all_stay a)
+leaves a loads (command.Floor slot key) r b h = left_by a b a (taken a.clones) h.0 (all_stay a)
+leaves a loads (command.Lower slot key) r b h = left_by a b a (taken a.clones) h.0 (all_stay a)
+leaves a loads (command.Ceiling slot key) r b h = left_by a b a (taken a.clones) h.0 (all_stay a)
+leaves a loads (command.Higher slot key) r b h = left_by a b a (taken a.clones) h.0 (all_stay a)
+leaves a loads (command.Count slot lo hi) r b h = left_by a b a (taken a.clones) h.0 (all_stay a)
+leaves a loads (command.Depth slot) r b h = absurd h
+leaves a loads (command.Export slot lo hi file) r b h = left_by a b a (taken a.clones) h.0 (all_stay a)
+leaves a loads (command.Load file) r b h = left_by a b (with_pass a h.0) (taken a.clones) h.1 (pass_leaves a h.0)
 
 -- commands that fit the slots, and that are served, can all be run
-pub can_run_all : (s : State) (loads : Loads) (cs : List Command) → length s.clones ≡ slots → AllFitSlots (taken s.clones) cs → AllServed s.names loads cs → CanRunAll s loads cs
+pub can_run_all : (s : State) (loads : Loads) (cs : List Command) → length s.clones ≡ slots → AllFitSlots (taken s.clones) cs → AllServed s.tables.names loads cs → CanRunAll s loads cs
 can_run_all s loads [] places fit served = tt
 can_run_all s loads (c ∷ cs) places fit served = (
   can_run s loads c places fit.0 served.0,
-  can_run_all (state_after s loads c) loads cs (places-after s loads c ∙ places)
-      (subst (λ (marks : List Bool). AllFitSlots marks cs) (sym (taken-after s loads c)) fit.1)
-      (subst (λ (names : List (List ℕ)). AllServed names loads cs) (sym (names-after s loads c)) served.1),
+  λ r next serves. let left = leaves s loads c r next serves in
+      can_run_all next loads cs (left.places ∙ places)
+      (subst (λ (marks : List Bool). AllFitSlots marks cs) (sym left.marks_are) fit.1)
+      (subst (λ (names : List (List ℕ)). AllServed names loads cs) (sym left.names) served.1),
 )
+
+-- in a session without clones
+pub can_run_new : (s : State) (loads : Loads) (names : List (List ℕ)) (cs : List Command) → s.tables.names ≡ names → s.clones ≡ free_slots → AllFitSlots (replicate slots false) cs → AllServed names loads cs → CanRunAll s loads cs
+can_run_new s loads names cs named free fit served = can_run_all s loads cs (ap (λ (cl : List (Option (ℕ × Cloned))). length cl) free)
+    (subst (λ (marks : List Bool). AllFitSlots marks cs) (sym (ap (λ (cl : List (Option (ℕ × Cloned))). taken cl) free ∙ taken-replicate (ℕ × Cloned) slots)) fit)
+    (subst (λ (ns : List (List ℕ)). AllServed ns loads cs) (sym named) served)

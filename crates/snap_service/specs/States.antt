@@ -1,47 +1,95 @@
--- What a session knows: the tables, the one in use, and the clones in their slots.
-use Rattle.std.specs.Prelude.{◌≡◌, ◌<◌, ℕ, List, [], length, Option, None, position, bytes_eq, replicate, slice_index_or, slice_set, unwrap_or, IsSome, IsNone}
-use Rattle.snap_model.specs.SortedMap.{Pairs}
-use Rattle.snap_service.specs.Tables.{Table, empty_table}
+-- What contracts see of the tables of a service, of a kit and of a session.
+use Rattle.std.specs.Prelude.{◌++◌, ◌≡◌, ◌<◌, ℕ, List, [], ◌∷◌, length, max, Option, None, position, bytes_eq, map, replicate, slice_index_or, slice_set, unwrap_or, IsSome, IsNone}
+use Rattle.atomic_table.specs.Seated.{TableId}
+use Rattle.snap_steps.specs.Clones.{Cloned}
+use Rattle.snap_steps.specs.Roles.{gone, newcomer}
+use Rattle.snap_steps.specs.Seen.{Known, Laid, IsOf}
+use Rattle.snap_steps.specs.declared.view.Role.TheVariants.{Passing}
+use Rattle.snap_table.specs.Calls.{IsIdle}
 
--- the names of the tables, the tables in the same order, the place of the one in use, and the clone in each slot
-pub record State : Type 0 where
+-- the tables of a service: their names, each table in the same order, their rows, and how many kits there are
+pub record Tables : Type 0 where
   pub names : List (List ℕ)
-  pub tables : List Table
-  pub in_use : ℕ
-  pub clones : List (Option Pairs)
+  pub laid : List Laid
+  pub rows : ℕ
+  pub kits : ℕ
 
--- how many clones may live at once
+abbrev pub no_table : TableId
+no_table = record { words = 0; slots = 0; views_name = 0; atom = 0; block = 0; offset = 0; slot_names = [] }
+
+abbrev pub nowhere : Laid
+nowhere = record { table = no_table; rows = 0; passes = 0 }
+
+abbrev pub nobody : Known
+nobody = record { table = no_table; view = gone }
+
+abbrev pub table_at : Tables → ℕ → Laid
+table_at s t = slice_index_or s.laid t nowhere
+
+-- each table has its name, and its size is that of the service
+pub record AreTables (s : Tables) : Type 0 where
+  pub a_table : 0 < length s.laid
+  pub a_name_each : length s.names ≡ length s.laid
+  pub rows_are : (t : ℕ) → t < length s.laid → (table_at s t).rows ≡ s.rows
+  pub passes_are : (t : ℕ) → t < length s.laid → (table_at s t).passes ≡ s.kits
+
+-- between two commands a pass is idle
+pub record IsSeated (rows : Laid) (p : Known) : Type 0 where
+  pub of : IsOf p rows
+  pub idle : IsIdle p.view
+  pub passing : p.view.role ≡ Passing
+
+abbrev pub pass_at : List Known → ℕ → Known
+pass_at passes t = slice_index_or passes t nobody
+
+-- a kit of these tables: an idle pass of each, in their order
+pub record AreSeated (s : Tables) (passes : List Known) : Type 0 where
+  pub a_pass_each : length passes ≡ length s.laid
+  pub each : (t : ℕ) → t < length s.laid → IsSeated (table_at s t) (pass_at passes t)
+
+-- a new kit of this number
+abbrev pub new_pass : ℕ → Laid → Known
+new_pass who rows = record { table = rows.table; view = newcomer rows.rows rows.passes who }
+
+abbrev pub new_kit : List Laid → ℕ → List Known
+new_kit laid who = map (new_pass who) laid
+
+-- how many clones of a session may live at once
 abbrev pub slots : ℕ
 slots = 64
 
--- one of the tables is in use, and there is a place for each clone
-pub record IsWellFormed (names : List (List ℕ)) (tables : List Table) (in_use : ℕ) (clones : List (Option Pairs)) : Type 0 where
-  pub a_table_each : length tables ≡ length names
-  pub a_table_in_use : in_use < length tables
-  pub a_place_each : length clones ≡ slots
+-- a session: the tables, its passes, the table in use, and the clone in each slot with the place of its table
+pub record State : Type 0 where
+  pub tables : Tables
+  pub passes : List Known
+  pub in_use : ℕ
+  pub clones : List (Option (ℕ × Cloned))
 
-abbrev pub free_slots : List (Option Pairs)
+pub record IsWellFormed (s : State) : Type 0 where
+  pub service : AreTables s.tables
+  pub seated : AreSeated s.tables s.passes
+  pub a_table_in_use : s.in_use < length s.passes
+  pub a_place_each : length s.clones ≡ slots
+
+abbrev pub free_slots : List (Option (ℕ × Cloned))
 free_slots = replicate slots None
 
 -- a session begins on the first table, with all slots free
-abbrev pub opened : List (List ℕ) → List Table → State
-opened names tables = record { names = names; tables = tables; in_use = 0; clones = free_slots }
+abbrev pub opened : Tables → List Known → State
+opened tables kit = record { tables = tables; passes = kit; in_use = 0; clones = free_slots }
 
 -- where the table of a name stands
 abbrev pub place_of : List (List ℕ) → List ℕ → Option ℕ
 place_of names name = position (λ known. bytes_eq known name) names
 
 abbrev pub HasTable : State → List ℕ → Type 0
-HasTable s name = IsSome (place_of s.names name)
+HasTable s name = IsSome (place_of s.tables.names name)
 
-abbrev pub table_in_use : State → Table
-table_in_use s = slice_index_or s.tables s.in_use empty_table
-
-abbrev pub map_in_use : State → Pairs
-map_in_use s = (table_in_use s).map
+abbrev pub pass_in_use : State → Known
+pass_in_use s = pass_at s.passes s.in_use
 
 -- the clone in a slot, if it is taken
-abbrev pub clone_at : State → ℕ → Option Pairs
+abbrev pub clone_at : State → ℕ → Option (ℕ × Cloned)
 clone_at s slot = slice_index_or s.clones slot None
 
 abbrev pub IsTaken : State → ℕ → Type 0
@@ -50,15 +98,34 @@ IsTaken s slot = IsSome (clone_at s slot)
 abbrev pub IsFree : State → ℕ → Type 0
 IsFree s slot = (slot < slots) × IsNone (clone_at s slot)
 
-abbrev pub clone_of : State → ℕ → Pairs
-clone_of s slot = unwrap_or (clone_at s slot) []
-
--- the state with another table of this name, another table in use, or another clone in a slot
-abbrev pub with_table : State → Table → State
-with_table s table = record s { tables = slice_set s.tables s.in_use table }
+-- the session with another pass on the table in use, another table in use, or another clone in a slot
+abbrev pub with_pass : State → Known → State
+with_pass s p = record s { passes = slice_set s.passes s.in_use p }
 
 abbrev pub with_use : State → List ℕ → State
-with_use s name = record s { in_use = unwrap_or (place_of s.names name) s.in_use }
+with_use s name = record s { in_use = unwrap_or (place_of s.tables.names name) s.in_use }
 
-abbrev pub with_slot : State → ℕ → Option Pairs → State
+abbrev pub with_slot : State → ℕ → Option (ℕ × Cloned) → State
 with_slot s slot clone = record s { clones = slice_set s.clones slot clone }
+
+-- the greatest number of uses of a pass
+abbrev pub most_uses : List Known → ℕ
+most_uses [] = 0
+most_uses (p ∷ ps) = max p.view.uses (most_uses ps)
+
+-- tables of these names, with so many rows each, for so many kits
+pub record IsOpened (s : Tables) (names : List (List ℕ)) (rows kits : ℕ) : Type 0 where
+  pub names_are : s.names ≡ names
+  pub rows_are : s.rows ≡ rows
+  pub kits_are : s.kits ≡ kits
+  pub tables : AreTables s
+
+-- each kit has the pass of its number of each table
+pub record AreNewKits (laid : List Laid) (kits : List (List Known)) (count : ℕ) : Type 0 where
+  pub many : length kits ≡ count
+  pub each : (i : ℕ) (d : List Known) → i < count → slice_index_or kits i d ≡ new_kit laid i
+
+-- each kit got the pass of its number
+pub record AreDealt (old : List (List Known)) (passes : List Known) (new : List (List Known)) : Type 0 where
+  pub many : length new ≡ length old
+  pub each : (i : ℕ) (d : List Known) → i < length old → slice_index_or new i d ≡ slice_index_or old i d ++ pass_at passes i ∷ []

@@ -1,19 +1,15 @@
-//! Tables by name, and the sessions that run a script's commands on them.
+//! Tables by name, and the sessions that run scripts' commands on them, many at once.
 //!
-//! A service has the names, and a kit what one session needs of the tables: for now the tables themselves, as plain
-//! maps. A session runs commands one by one. It keeps the table in use and up to 64 clones, each a copy that nothing
-//! changes. What every command replies, and the state that it leaves, is in `specs/`; the calls are those that the
-//! concurrent table will carry.
+//! A service has the tables, and a kit one pass of each. A session runs commands one by one with the passes of its
+//! kit. It keeps the table in use and up to 64 clones. What every command replies is told by the promises of the
+//! tables' calls; and whatever the tables come to until they are closed, the commands of a session fit them.
 #![tactic(auto)]
 
-mod loads;
-mod receipt;
+mod asking;
 mod replies;
 mod service;
 mod session;
-mod table;
 
-pub use loads::Loads;
-pub use receipt::KitReceipt;
-pub use service::{Kit, MOST_ROWS, MOST_TABLES, Service};
+pub use service::{Fronts, Kit, KitReceipt, MOST_ROWS, MOST_TABLES, Service};
 pub use session::{SLOTS, Session};
+pub use snap_text::Loads;

@@ -1,5 +1,6 @@
+//! Replies by what a table or a clone has found.
 ghost use Rattle.std.specs.Prelude.{◌≡◌};
-ghost use Rattle.snap_service.specs.Replies.{pair_reply, put_reply, remove_reply, value_reply};
+ghost use Rattle.snap_fits.specs.Fits.{pair_reply, put_reply, remove_reply, value_reply};
 
 use snap_model::{Key, Reply};
 

@@ -1,0 +1,7 @@
+//! Cases of sessions: scripts with their replies, one worker or two in turns, and how a service ends.
+#![tactic(auto)]
+
+#[cfg(test)]
+mod cases;
+#[cfg(test)]
+mod sessions;

@@ -1,0 +1,9 @@
+pub mod Prefixes
+pub mod Lengths
+pub mod Tracks
+pub mod Loads
+pub mod Steps
+pub mod Runs
+pub mod Example
+pub mod Alone
+pub mod Wrong

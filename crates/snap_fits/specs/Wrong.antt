@@ -1,0 +1,23 @@
+-- Replies that fit no history of a worker that has the tables for itself.
+use Rattle.std.specs.Prelude.{ℕ, List, [], ◌∷◌}
+use Rattle.snap_model.specs.declared.command.Command.{Command}
+use Rattle.snap_model.specs.declared.command.Command.TheVariants as command
+use Rattle.snap_model.specs.declared.command.Reply.{Reply}
+use Rattle.snap_model.specs.declared.command.Reply.TheVariants as reply
+use Rattle.snap_fits.specs.Fits.{Setting, Front, WorkerFits}
+use Rattle.snap_fits.specs.Alone.{IsAlone}
+
+abbrev pub FitsNothing : List Command → List Reply → Type 0
+FitsNothing commands replies = (s : Setting) (w : ℕ) (fronts : ℕ → Front) → IsAlone w fronts → ¬ WorkerFits s fronts w commands replies []
+
+-- the new value as the reply of a put
+abbrev pub NewValueFitsNothing : Type 0
+NewValueFitsNothing = FitsNothing (command.Put 7 5 ∷ command.Put 7 6 ∷ []) (reply.New ∷ reply.Old 6 ∷ [])
+
+-- a get of what stood there before the worker's own put
+abbrev pub OlderGetFitsNothing : Type 0
+OlderGetFitsNothing = FitsNothing (command.Put 7 5 ∷ command.Get 7 ∷ []) (reply.New ∷ reply.Absent ∷ [])
+
+-- a clone of the map before the worker's own put
+abbrev pub StaleCloneFitsNothing : Type 0
+StaleCloneFitsNothing = FitsNothing (command.Put 7 5 ∷ command.Snap 0 [] ∷ command.See 0 7 ∷ []) (reply.New ∷ reply.Snapped ∷ reply.Absent ∷ [])

@@ -1,0 +1,155 @@
+-- From what a session's command does, by the promises of the tables' calls, to what counts of it.
+use Rattle.std.proofs.Common.{zero, suc, ◌≡◌, ◌≢◌, ◌<◌, ◌-◌, ◌^◌, ℕ, List, [], ◌∷◌, ◌++◌, length, Option, Some, None, get_or, inl, inr, refl, ap, sym, ◌∙◌, subst, arith}
+use Rattle.std.specs.Prelude.{slice_get, slice_set, slice_index_or, unwrap_or, IsSome, take, min}
+use Rattle.std.proofs.lemmas.List.{get_or-set_same, get_or-set_other}
+use Rattle.std.proofs.lemmas.Option.{slice_get-get_or}
+use Rattle.snap_fits.specs.Fits.{Setting, put_reply, remove_reply, value_reply, pair_reply}
+use Rattle.snap_fits.specs.Sessions.{Track, Served, exported}
+use Rattle.snap_fits.specs.Steps as steps
+use Rattle.snap_fits.proofs.Runs.{served_goes_on}
+use Rattle.snap_model.specs.SortedMap.{Pairs, at, first_pair, last_pair, floor, lower, ceiling, higher, count}
+use Rattle.snap_model.specs.declared.call.Call.{Call}
+use Rattle.snap_model.specs.declared.call.Call.TheVariants.{Put, Remove}
+use Rattle.snap_model.specs.declared.command.Command.{Command}
+use Rattle.snap_model.specs.declared.command.Command.TheVariants as command
+use Rattle.snap_model.specs.declared.command.Reply.{Reply}
+use Rattle.snap_model.specs.declared.command.Reply.TheVariants as reply
+use Rattle.snap_steps.specs.Clones.{Cloned}
+use Rattle.snap_steps.specs.Seen.{Known}
+use Rattle.snap_service.specs.Courses.{course, kept, setting, track, track_of}
+use Rattle.snap_text.specs.LoadFiles.{Loads, pairs_of}
+use Rattle.snap_service.specs.Runs.{ServesOn}
+use Rattle.snap_service.specs.Serving.{CanRun, Loaded, Serves, Wrote, map_in}
+use Rattle.snap_service.specs.States.{State, IsWellFormed, clone_at, nobody, pass_in_use, place_of, with_pass, with_slot}
+use Rattle.snap_service.proofs.Tracks.{cut, put_all, read, refused, wrote}
+
+get_set_other : {X : Type 0} (xs : List X) (i j : ℕ) (x : X) → j ≢ i → slice_get (slice_set xs i x) j ≡ slice_get xs j
+get_set_other [] i j x n = refl
+get_set_other (y ∷ xs) zero zero x n = absurd (n refl)
+get_set_other (y ∷ xs) zero (suc j) x n = refl
+get_set_other (y ∷ xs) (suc i) zero x n = refl
+get_set_other (y ∷ xs) (suc i) (suc j) x n = get_set_other xs i j x (λ e. n (ap suc e))
+
+get_set_same : {X : Type 0} (xs : List X) (i : ℕ) (x : X) → i < length xs → slice_get (slice_set xs i x) i ≡ Some x
+get_set_same [] i x l = absurd (omega (arith, l))
+get_set_same (y ∷ xs) zero x l = refl
+get_set_same (y ∷ xs) (suc i) x l = get_set_same xs i x (omega (arith, l))
+
+module _ (w : ℕ) (a : State) (pass : Known) (within : a.in_use < length a.passes) where
+  here_old : (course w a).passes a.in_use ≡ track_of (pass_in_use a)
+  here_old = ap (track w) (slice_get-get_or a.passes a.in_use nobody within)
+
+  here_new : (course w (with_pass a pass)).passes a.in_use ≡ track_of pass
+  here_new = ap (track w) (get_set_same a.passes a.in_use pass within)
+
+  there : (t : ℕ) → t ≢ a.in_use → (course w (with_pass a pass)).passes t ≡ (course w a).passes t
+  there t n = ap (track w) (get_set_other a.passes a.in_use t pass n)
+
+  on_pass : (P : Track → Track → Type 0) → P (track_of (pass_in_use a)) (track_of pass) → steps.OnPass (course w a) (course w (with_pass a pass)) P
+  on_pass P h = record {
+    here = subst (λ (x : Track). P x ((course w (with_pass a pass)).passes a.in_use)) (sym here_old) (subst (λ (x : Track). P (track_of (pass_in_use a)) x) (sym here_new) h);
+    others = there;
+    in_use = refl;
+  }
+
+wrote_step : (rows : ℕ) (call : Call) (reply_of : Option ℕ → Reply) (old new : Known) (r : Reply) → Wrote rows call reply_of old r new → steps.WriteAnswers rows call reply_of r (track_of old) (track_of new)
+wrote_step rows call reply_of old new r (inl h) = inl (h.0, h.1, wrote old new call h.0 h.2)
+wrote_step rows call reply_of old new r (inr h) = inr (h.0, refused rows old new call h.1)
+
+loaded_step : (rows : ℕ) (pairs : Pairs) (old new : Known) (r : Reply) → Loaded rows pairs old r new → steps.LoadAnswers rows pairs r (track_of old) (track_of new)
+loaded_step rows pairs old new r (inl h) = inl (h.0, put_all old pairs new h.1)
+loaded_step rows pairs old new r (inr h) = inr (h.0, h.1, h.2, h.3, track_of h.4, put_all old (take h.0 pairs) h.4 h.5, refused rows h.4 new (Put h.1.0 h.1.1) h.6)
+
+asked : (c : Option (ℕ × Cloned)) (P : Pairs → Type 0) → IsSome c → P (map_in c) → steps.Tells (kept c) P
+asked None P s h = absurd cc
+asked (Some live) P s h = h
+
+same : (w : ℕ) (a b : State) → b ≡ a → steps.Same (course w a) (course w b)
+same w a b e = record {
+  passes = λ t. ap (λ (s : State). (course w s).passes t) e;
+  in_use = ap (λ (s : State). s.in_use) e;
+  clones = λ n. ap (λ (s : State). (course w s).clones n) e;
+}
+
+slot_set : (w : ℕ) (a b : State) (slot : ℕ) (c : Option (ℕ × Cloned)) → slot < length a.clones → (let clones : List (Option (ℕ × Cloned)) = slice_set a.clones slot c in b.clones ≡ clones) → steps.OneClone (course w a) (course w b) slot (kept c)
+slot_set w a b slot c l e = (
+  ap (λ (cs : List (Option (ℕ × Cloned))). kept (slice_index_or cs slot None)) e ∙ ap kept (get_or-set_same a.clones slot c None l),
+  λ i n. ap (λ (cs : List (Option (ℕ × Cloned))). kept (slice_index_or cs i None)) e ∙ ap kept (get_or-set_other a.clones slot i c None n),
+)
+
+used : (place : Option ℕ) (d : ℕ) → IsSome place → unwrap_or place d ≡ unwrap_or place 0
+used None d h = absurd cc
+used (Some t) d h = refl
+
+pub taken_within : (s : State) (slot : ℕ) → IsSome (clone_at s slot) → slot < length s.clones
+taken_within s slot h = go s.clones slot h
+  where
+    go : (cs : List (Option (ℕ × Cloned))) (i : ℕ) → IsSome (get_or cs i None) → i < length cs
+    go [] i h = absurd cc
+    go (c ∷ cs) zero h = omega arith
+    go (c ∷ cs) (suc i) h = let r = go cs i h in omega (arith, r)
+
+pub stepped : (w : ℕ) (loads : Loads) (a b : State) (c : Command) (r : Reply) → IsWellFormed a → CanRun a loads c → Serves loads a c r b → steps.Steps (setting a.tables loads) (course w a) c r (course w b)
+stepped w loads a b (command.Table name) r ok can h = (
+  h.0,
+  ap (λ (s : State). s.in_use) h.1 ∙ used (place_of a.tables.names name) a.in_use can,
+  λ t. ap (λ (s : State). (course w s).passes t) h.1,
+  λ n. ap (λ (s : State). (course w s).clones n) h.1,
+)
+stepped w loads a b (command.Put key value) r ok can h =
+    subst (λ (s : State). steps.Steps (setting a.tables loads) (course w a) (command.Put key value) r (course w s)) (sym h.1)
+    (on_pass w a h.0 ok.a_table_in_use (steps.WriteAnswers a.tables.rows (Put key value) put_reply r) (wrote_step a.tables.rows (Put key value) put_reply (pass_in_use a) h.0 r h.2), λ n. refl)
+stepped w loads a b (command.Remove key) r ok can h =
+    subst (λ (s : State). steps.Steps (setting a.tables loads) (course w a) (command.Remove key) r (course w s)) (sym h.1)
+    (on_pass w a h.0 ok.a_table_in_use (steps.WriteAnswers a.tables.rows (Remove key) remove_reply r) (wrote_step a.tables.rows (Remove key) remove_reply (pass_in_use a) h.0 r h.2), λ n. refl)
+stepped w loads a b (command.Get key) r ok can h =
+    subst (λ (s : State). steps.Steps (setting a.tables loads) (course w a) (command.Get key) r (course w s)) (sym h.1)
+    ((h.2, h.3, on_pass w a h.0 ok.a_table_in_use (λ old new. steps.Reads old new key h.2) (read (pass_in_use a) h.0 key h.2 h.4)), λ n. refl)
+stepped w loads a b (command.Load file) r ok can h =
+    subst (λ (s : State). steps.Steps (setting a.tables loads) (course w a) (command.Load file) r (course w s)) (sym h.1)
+    (on_pass w a h.0 ok.a_table_in_use (steps.LoadAnswers a.tables.rows (pairs_of loads file) r) (loaded_step a.tables.rows (pairs_of loads file) (pass_in_use a) h.0 r h.2), λ n. refl)
+stepped w loads a b (command.Snap slot name) r ok can h =
+    let after : State = with_slot (with_pass a h.1) slot (Some (a.in_use, h.2)) in
+    subst (λ (s : State). steps.Steps (setting a.tables loads) (course w a) (command.Snap slot name) r (course w s)) (sym h.3) (
+      h.0,
+      h.2.base,
+      (let x = on_pass w a h.1 ok.a_table_in_use (λ old new. steps.Cuts old new h.2.base) (cut (pass_in_use a) h.1 h.2 h.4) in record { here = x.here; others = x.others; in_use = refl }),
+      slot_set w a after slot (Some (a.in_use, h.2)) (let f = can.0 in omega (arith, f, ok.a_place_each)) refl,
+    )
+stepped w loads a b (command.Forget slot name) r ok can h =
+    subst (λ (s : State). steps.Steps (setting a.tables loads) (course w a) (command.Forget slot name) r (course w s)) (sym h.1)
+    (h.0, asked (clone_at a slot) (λ _. Unit {0}) can tt, slot_set w a (with_slot a slot None) slot None (taken_within a slot can) refl, (λ t. refl), refl)
+stepped w loads a b (command.See slot key) r ok can h = (same w a b h.0, asked (clone_at a slot) (λ map. r ≡ value_reply (at map key)) can h.1)
+stepped w loads a b (command.First slot) r ok can h = (same w a b h.0, asked (clone_at a slot) (λ map. r ≡ pair_reply (first_pair map)) can h.1)
+stepped w loads a b (command.Last slot) r ok can h = (same w a b h.0, asked (clone_at a slot) (λ map. r ≡ pair_reply (last_pair map)) can h.1)
+stepped w loads a b (command.Floor slot key) r ok can h = (same w a b h.0, asked (clone_at a slot) (λ map. r ≡ pair_reply (floor map key)) can h.1)
+stepped w loads a b (command.Lower slot key) r ok can h = (same w a b h.0, asked (clone_at a slot) (λ map. r ≡ pair_reply (lower map key)) can h.1)
+stepped w loads a b (command.Ceiling slot key) r ok can h = (same w a b h.0, asked (clone_at a slot) (λ map. r ≡ pair_reply (ceiling map key)) can h.1)
+stepped w loads a b (command.Higher slot key) r ok can h = (same w a b h.0, asked (clone_at a slot) (λ map. r ≡ pair_reply (higher map key)) can h.1)
+stepped w loads a b (command.Count slot lo hi) r ok can h = (same w a b h.0, asked (clone_at a slot) (λ map. r ≡ reply.Count (min (count map lo hi) (2 ^ 64 - 1))) can h.1)
+stepped w loads a b (command.Export slot lo hi file) r ok can h = (same w a b h.0, asked (clone_at a slot) (λ map. r ≡ reply.Exported (count map lo hi)) can h.1)
+stepped w loads a b (command.Depth slot) r ok can h = absurd h
+
+pub tables_stay : (loads : Loads) (a b : State) (c : Command) (r : Reply) → Serves loads a c r b → b.tables ≡ a.tables
+tables_stay loads a b (command.Table name) r h = ap (λ (s : State). s.tables) h.1
+tables_stay loads a b (command.Put key value) r h = ap (λ (s : State). s.tables) h.1
+tables_stay loads a b (command.Remove key) r h = ap (λ (s : State). s.tables) h.1
+tables_stay loads a b (command.Get key) r h = ap (λ (s : State). s.tables) h.1
+tables_stay loads a b (command.Load file) r h = ap (λ (s : State). s.tables) h.1
+tables_stay loads a b (command.Snap slot name) r h = ap (λ (s : State). s.tables) h.3
+tables_stay loads a b (command.Forget slot name) r h = ap (λ (s : State). s.tables) h.1
+tables_stay loads a b (command.See slot key) r h = ap (λ (s : State). s.tables) h.0
+tables_stay loads a b (command.First slot) r h = ap (λ (s : State). s.tables) h.0
+tables_stay loads a b (command.Last slot) r h = ap (λ (s : State). s.tables) h.0
+tables_stay loads a b (command.Floor slot key) r h = ap (λ (s : State). s.tables) h.0
+tables_stay loads a b (command.Lower slot key) r h = ap (λ (s : State). s.tables) h.0
+tables_stay loads a b (command.Ceiling slot key) r h = ap (λ (s : State). s.tables) h.0
+tables_stay loads a b (command.Higher slot key) r h = ap (λ (s : State). s.tables) h.0
+tables_stay loads a b (command.Count slot lo hi) r h = ap (λ (s : State). s.tables) h.0
+tables_stay loads a b (command.Export slot lo hi file) r h = ap (λ (s : State). s.tables) h.0
+tables_stay loads a b (command.Depth slot) r h = absurd h
+
+pub serves_on : (loads : Loads) (a b : State) (c : Command) (r : Reply) → IsWellFormed a → CanRun a loads c → Serves loads a c r b → ServesOn loads a c r b
+serves_on loads a b c r ok can h w cs rs es v =
+    let S : Setting → Type 0 = λ s. Served s w (cs ++ c ∷ []) (rs ++ r ∷ []) (es ++ exported (course w a) c) (course w b) in
+    subst S (ap (λ t. setting t loads) (sym (tables_stay loads a b c r h))) (served_goes_on (setting a.tables loads) w cs rs es (course w a) (course w b) c r v (stepped w loads a b c r ok can h))

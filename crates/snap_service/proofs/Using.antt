@@ -1,0 +1,138 @@
+-- A call on the table in use.
+use Rattle.std.specs.Prelude.{◌⊎◌, slice_get, slice_set, IfOk, OnErr, MatchResult, is_err}
+use Rattle.std.proofs.lemmas.Option.{slice_get-get_or}
+use Rattle.std.proofs.Common.{zero, suc, ◌≡◌, ◌≤◌, ◌<◌, ℕ, List, [], ◌∷◌, ◌++◌, length, get_or, take, true, false, Result, Ok, Err, Option, Some, inl, inr, refl, ap, sym, ◌∙◌, subst, arith}
+use native.Mathlib.Decide.{ℕ_discrete}
+use mathlib.Core.Logic.{dite}
+use Rattle.std.proofs.lemmas.List.{set-get_or, get_or_read, get_or-set_same, get_or-set_other, length-set}
+use Rattle.snap_fits.specs.Fits.{value_reply}
+use Rattle.snap_model.specs.SortedMap.{Pairs}
+use Rattle.snap_model.specs.declared.call.Call.{Call}
+use Rattle.snap_model.specs.declared.call.Call.TheVariants.{Put}
+use Rattle.snap_model.specs.declared.command.Reply.{Reply}
+use Rattle.snap_model.specs.declared.command.Reply.TheVariants as reply
+use Rattle.snap_search.specs.Answers.{Reads}
+use Rattle.snap_steps.specs.Clones.{Cloned}
+use Rattle.snap_steps.specs.Seen.{Known, Laid}
+use Rattle.snap_table.specs.Calls.{Replies, Refuses}
+use Rattle.snap_table.specs.Clones.{Cuts}
+use Rattle.snap_service.specs.Serving.{Loaded, PutAll, Wrote}
+use Rattle.snap_service.specs.States.{AreSeated, IsSeated, IsWellFormed, State, Tables, most_uses, nobody, nowhere, pass_at, pass_in_use, table_at, with_pass, with_slot}
+
+pub uses_le : (ps : List Known) (i : ℕ) (p : Known) → i < length ps → p ≡ get_or ps i p → p.view.uses ≤ most_uses ps
+uses_le [] i p l e = absurd (omega (arith, l))
+uses_le (q ∷ ps) zero p l e = omega (arith, ap (λ (k : Known). k.view.uses) e)
+uses_le (q ∷ ps) (suc i) p l e = omega (arith, uses_le ps i p (omega (arith, l)) e)
+
+module _ (s s0 : State) (same : s0 ≡ s) (ok : IsWellFormed s0) (p0 : Known) (is : p0 ≡ get_or s0.passes s0.in_use p0) where
+  pub pass_is : p0 ≡ pass_in_use s
+  pass_is = get_or_read s0.passes s0.in_use p0 ok.a_table_in_use is nobody ∙ ap pass_in_use same
+
+  module _ (laid : List Laid) (x : Laid) (of : laid ≡ s0.tables.laid) (at : x ≡ get_or laid s0.in_use x) where
+    pub rows_are : x.rows ≡ s.tables.rows
+    rows_are =
+        let l : s0.in_use < length s0.tables.laid = omega (arith, ok.a_table_in_use, ok.seated.a_pass_each) in
+        ap (λ (y : Laid). y.rows) (get_or_read laid s0.in_use x (omega (arith, l, ap length of)) at nowhere ∙ ap (λ (ls : List Laid). get_or ls s0.in_use nowhere) of)
+        ∙ ok.service.rows_are s0.in_use l ∙ ap (λ (y : State). y.tables.rows) same
+
+    pub written_done : (p1 : Known) (call : Call) (reply_of : Option ℕ → Reply) (r : Reply)
+        → (((was : Option ℕ) × (r ≡ reply_of was) × Replies p0 p1 call was) ⊎ ((r ≡ reply.Full) × Refuses x.rows p0 p1 call))
+        → (pass : Known) × (with_pass s0 p1 ≡ with_pass s pass) × Wrote s.tables.rows call reply_of (pass_in_use s) r pass
+    written_done p1 call reply_of r (inl h) = (p1, ap (λ (y : State). with_pass y p1) same, inl (h.0, h.1, subst (λ (k : Known). Replies k p1 call h.0) pass_is h.2))
+    written_done p1 call reply_of r (inr h) = (p1, ap (λ (y : State). with_pass y p1) same, inr (h.0, subst (λ (k : Known). Refuses s.tables.rows k p1 call) pass_is (subst (λ (n : ℕ). Refuses n p0 p1 call) rows_are h.1)))
+
+    pub loaded_done : (p1 : Known) (pairs : Pairs) (r : Reply) → Loaded x.rows pairs p0 r p1 → (pass : Known) × (with_pass s0 p1 ≡ with_pass s pass) × Loaded s.tables.rows pairs (pass_in_use s) r pass
+    loaded_done p1 pairs r h = (p1, ap (λ (y : State). with_pass y p1) same, subst (λ (k : Known). Loaded s.tables.rows pairs k r p1) pass_is (subst (λ (n : ℕ). Loaded n pairs p0 r p1) rows_are h))
+
+  pub read_done : (p1 : Known) (key : ℕ) (answer : Option ℕ) (r : Reply) → r ≡ value_reply answer → Reads p0 p1 key answer
+      → (pass : Known) × (with_pass s0 p1 ≡ with_pass s pass) × (a : Option ℕ) × (r ≡ value_reply a) × Reads (pass_in_use s) pass key a
+  read_done p1 key answer r e h = (p1, ap (λ (y : State). with_pass y p1) same, answer, e, subst (λ (k : Known). Reads k p1 key answer) pass_is h)
+
+  pub cut_done : (p1 : Known) (slot : ℕ) (clone : Cloned) → Cuts p0 p1 clone
+      → (pass : Known) × (c : Cloned) × (with_slot (with_pass s0 p1) slot (Some (s0.in_use, clone)) ≡ with_slot (with_pass s pass) slot (Some (s.in_use, c))) × Cuts (pass_in_use s) pass c
+  cut_done p1 slot clone h = (p1, clone, ap (λ (y : State). with_slot (with_pass y p1) slot (Some (y.in_use, clone))) same, subst (λ (k : Known). Cuts k p1 clone) pass_is h)
+
+-- another pass of the same table that is idle
+pub seat_set : (tables : Tables) (ps : List Known) (i : ℕ) (p : Known) → AreSeated tables ps → i < length ps → IsSeated (table_at tables i) p → AreSeated tables (slice_set ps i p)
+seat_set tables ps i p h l x = record {
+  a_pass_each = omega (arith, length-set ps i p, h.a_pass_each);
+  each = λ t m. dite (ℕ_discrete t i)
+      (λ e. subst (λ (n : ℕ). IsSeated (table_at tables n) (pass_at (slice_set ps i p) n)) (sym e) (subst (IsSeated (table_at tables i)) (sym (get_or-set_same ps i p nobody l)) x))
+      (λ n. subst (IsSeated (table_at tables t)) (sym (get_or-set_other ps i t p nobody n)) (h.each t m));
+}
+
+pub seat_replied : (rows : Laid) (old new : Known) (call : Call) (was : Option ℕ) → IsSeated rows old → Replies old new call was → IsSeated rows new
+seat_replied rows old new call was x h = record {
+  of = (ap (λ (k : Known). k.table) h.is ∙ x.of.0, ap (λ (k : Known). k.view.rows) h.is ∙ x.of.1, ap (λ (k : Known). k.view.passes) h.is ∙ x.of.2);
+  idle = h.idle;
+  passing = ap (λ (k : Known). k.view.role) h.is ∙ x.passing;
+}
+
+pub seat_refused : (rows : Laid) (n : ℕ) (old new : Known) (call : Call) → IsSeated rows old → Refuses n old new call → IsSeated rows new
+seat_refused rows n old new call x h = record {
+  of = (ap (λ (k : Known). k.table) h.is ∙ x.of.0, ap (λ (k : Known). k.view.rows) h.is ∙ x.of.1, ap (λ (k : Known). k.view.passes) h.is ∙ x.of.2);
+  idle = h.idle;
+  passing = ap (λ (k : Known). k.view.role) h.is ∙ x.passing;
+}
+
+pub seat_read : (rows : Laid) (old new : Known) (key : ℕ) (answer : Option ℕ) → IsSeated rows old → Reads old new key answer → IsSeated rows new
+seat_read rows old new key answer x h = record {
+  of = (ap (λ (k : Known). k.table) h.is ∙ x.of.0, ap (λ (k : Known). k.view.rows) h.is ∙ x.of.1, ap (λ (k : Known). k.view.passes) h.is ∙ x.of.2);
+  idle = record { idle = ap (λ (k : Known). k.view.stage) h.is ∙ x.idle.idle; free = ap (λ (k : Known). k.view.holds) h.is ∙ x.idle.free; whole = ap (λ (k : Known). k.view.doing) h.is ∙ x.idle.whole };
+  passing = ap (λ (k : Known). k.view.role) h.is ∙ x.passing;
+}
+
+pub seat_cut : (rows : Laid) (old new : Known) (clone : Cloned) → IsSeated rows old → Cuts old new clone → IsSeated rows new
+seat_cut rows old new clone x c = let h = c.cut in record {
+  of = (ap (λ (k : Known). k.table) h.is ∙ x.of.0, ap (λ (k : Known). k.view.rows) h.is ∙ x.of.1, ap (λ (k : Known). k.view.passes) h.is ∙ x.of.2);
+  idle = c.idle;
+  passing = ap (λ (k : Known). k.view.role) h.is ∙ x.passing;
+}
+
+pub seat_put : (rows : Laid) (old : Known) (xs : Pairs) (new : Known) → IsSeated rows old → PutAll old xs new → IsSeated rows new
+seat_put rows old [] new x h = subst (IsSeated rows) (sym h) x
+seat_put rows old (y ∷ ys) new x h = seat_put rows h.0 ys new (seat_replied rows old h.0 _ h.1.0 x h.1.1) h.2
+
+-- one put more
+pub put_more : (old : Known) (xs : Pairs) (mid new : Known) (x : ℕ × ℕ) (was : Option ℕ) → PutAll old xs mid → Replies mid new (Put x.0 x.1) was → PutAll old (xs ++ x ∷ []) new
+put_more old [] mid new x was h r = (new, (was, subst (λ (k : Known). Replies k new (Put x.0 x.1) was) h r), refl)
+put_more old (y ∷ ys) mid new x was h r = (h.0, h.1, put_more h.0 ys mid new x was h.2 r)
+
+-- an answer by its case
+pub ok_of : {A B : Type 0} (r : Result A B) (P : A → Type 0) (Q : B → Type 0) → MatchResult r P Q → is_err r ≡ false → (a : A) × P a
+ok_of (Ok a) P Q h e = (a, h)
+ok_of (Err b) P Q h e = absurd cc
+
+pub err_of : {A B : Type 0} (r : Result A B) (P : A → Type 0) (Q : B → Type 0) → MatchResult r P Q → is_err r ≡ true → (b : B) × Q b
+err_of (Ok a) P Q h e = absurd cc
+err_of (Err b) P Q h e = (b, h)
+
+pub get_some : (xs : Pairs) (i : ℕ) → i < length xs → slice_get xs i ≡ Some (get_or xs i (0, 0))
+get_some xs i l = slice_get-get_or xs i (0, 0) l
+
+pub if_ok : {A B : Type 0} (r : Result A B) (P Q : A → Type 0) → ((a : A) → P a → Q a) → IfOk r P → IfOk r Q
+if_ok (Ok a) P Q f h = f a h
+if_ok (Err b) P Q f h = h
+
+-- an element that was only looked at
+pub set_same : {X : Type 0} (xs : List X) (i : ℕ) (x y : X) → y ≡ x → x ≡ get_or xs i x → slice_set xs i y ≡ xs
+set_same xs i x y e v = ap (slice_set xs i) (e ∙ v) ∙ set-get_or xs i x
+
+pub well_set : (s : State) (p : Known) → IsWellFormed s → IsSeated (table_at s.tables s.in_use) p → IsWellFormed (with_pass s p)
+well_set s p ok x = record {
+  service = ok.service;
+  seated = seat_set s.tables s.passes s.in_use p ok.seated ok.a_table_in_use x;
+  a_table_in_use = omega (arith, ok.a_table_in_use, length-set s.passes s.in_use p);
+  a_place_each = ok.a_place_each;
+}
+
+pub seat_loaded : (rows : Laid) (n : ℕ) (pairs : Pairs) (old : Known) (r : Reply) (new : Known) → IsSeated rows old → Loaded n pairs old r new → IsSeated rows new
+seat_loaded rows n pairs old r new x (inl h) = seat_put rows old pairs new x h.1
+seat_loaded rows n pairs old r new x (inr h) = seat_refused rows n h.4 new (Put h.1.0 h.1.1) (seat_put rows old (take h.0 pairs) h.4 x h.5) h.6
+
+pub seat_here : (s : State) (p : Known) → IsWellFormed s → p ≡ get_or s.passes s.in_use p → IsSeated (table_at s.tables s.in_use) p
+seat_here s p ok is = subst (IsSeated (table_at s.tables s.in_use)) (sym (get_or_read s.passes s.in_use p ok.a_table_in_use is nobody)) (ok.seated.each s.in_use (omega (arith, ok.a_table_in_use, ok.seated.a_pass_each)))
+
+pub by_case : {A B G : Type 0} (r : Result A B) (P : A → Type 0) (Q : Type 0) → IfOk r P → OnErr r Q → ((a : A) → P a → G) → (Q → G) → G
+by_case (Ok a) P Q h k f g = f a h
+by_case (Err b) P Q h k f g = g k
