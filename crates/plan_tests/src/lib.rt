@@ -1,0 +1,13 @@
+//! Tests of the crates that lead from the command line to a plan, by their public calls.
+#![tactic(auto)]
+
+#[cfg(test)]
+mod asserts;
+#[cfg(test)]
+mod growing;
+#[cfg(test)]
+mod made;
+#[cfg(test)]
+mod plans;
+#[cfg(test)]
+mod words;

@@ -1,0 +1,9 @@
+pub mod Fronts
+pub mod Names
+pub mod Stopping
+pub mod Inputs
+pub mod Walking
+pub mod Known
+pub mod Made
+pub mod Outputs
+pub mod Endings

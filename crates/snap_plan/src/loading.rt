@@ -1,0 +1,55 @@
+ghost use Rattle.std.specs.Prelude.{◌≡◌, ◌≢◌, ◌≤◌, Ok, All, AllPairs, IfOk, IfErr, length, map};
+ghost use Rattle.snap_io.specs.Causes.{Rose};
+ghost use Rattle.snap_io.specs.Shelves.{IfTold};
+ghost use Rattle.snap_plan.specs.Inputs.{loads_in, scripts_in};
+ghost use Rattle.snap_plan.specs.Runnable.{AllInRange, IsScript};
+ghost use Rattle.snap_plan.specs.Stops.{IsPastWords, StopsBy};
+
+use crate::parsing::{parse_loads, parse_scripts};
+use crate::reading::read_all;
+use crate::{ScriptList, Stop};
+use snap_io::Shelf;
+use snap_model::Name;
+use snap_text::Loads;
+use std::alloc::Global;
+
+/// The most bytes of a script.
+const MOST_SCRIPT_BYTES: u64 = 4_194_304;
+
+/// The most bytes of a load file.
+const MOST_LOAD_BYTES: u64 = 16_777_216;
+
+/// Reads scripts in their order, and then parses them.
+pub fn read_scripts<S: Shelf>(
+    alloc: Global,
+    shelf: &mut S,
+    names: &[Name],
+) -> Result<ScriptList, Stop>
+    ensures scripts { IfOk result (λ scripts. IfTold (S.files shelf.old) (λ f. scripts_in f names.now ≡ Ok scripts)) }
+    ensures each { IfOk result (λ scripts. length scripts ≡ length names.now) }
+    ensures fit { IfOk result (All IsScript) }
+    ensures past_words { IfErr result IsPastWords }
+    ensures stops { IfErr result (StopsBy (S.files shelf.old) (λ f. scripts_in f names.now) (λ f. names.now) (Rose (S.read_faults shelf.old) (S.read_faults shelf.new))) }
+    ensures later { S.read_faults shelf.old ≤ S.read_faults shelf.new }
+    ensures files { S.files shelf.new ≡ S.files shelf.old }
+    ensures writes { S.write_faults shelf.new ≡ S.write_faults shelf.old }
+{
+    let inputs = read_all(alloc, shelf, names, MOST_SCRIPT_BYTES)?;
+    parse_scripts(alloc, &inputs)
+}
+
+/// Reads load files in their order, each once, and then parses them.
+pub fn read_loads<S: Shelf>(alloc: Global, shelf: &mut S, names: &[Name]) -> Result<Loads, Stop>
+    requires { AllPairs (λ a b. a ≢ b) names.now }
+    ensures loads { IfOk result (λ loads. IfTold (S.files shelf.old) (λ f. loads_in f names.now ≡ Ok loads)) }
+    ensures names { IfOk result (λ loads. map (λ file. file.0) loads ≡ names.now) }
+    ensures in_range { IfOk result AllInRange }
+    ensures past_words { IfErr result IsPastWords }
+    ensures stops { IfErr result (StopsBy (S.files shelf.old) (λ f. loads_in f names.now) (λ f. names.now) (Rose (S.read_faults shelf.old) (S.read_faults shelf.new))) }
+    ensures later { S.read_faults shelf.old ≤ S.read_faults shelf.new }
+    ensures files { S.files shelf.new ≡ S.files shelf.old }
+    ensures writes { S.write_faults shelf.new ≡ S.write_faults shelf.old }
+{
+    let inputs = read_all(alloc, shelf, names, MOST_LOAD_BYTES)?;
+    parse_loads(alloc, &inputs)
+}
