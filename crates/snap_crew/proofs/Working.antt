@@ -1,0 +1,103 @@
+-- A worker's loop: one command more.
+use Rattle.std.specs.Prelude.{map}
+use Rattle.std.proofs.Common.{◌≡◌, ◌≤◌, ◌<◌, ◌+◌, ◌*◌, ◌^◌, ◌++◌, ℕ, List, [], ◌∷◌, length, get_or, take, drop, refl, ap, sym, ◌∙◌, subst, arith}
+use Rattle.std.proofs.lemmas.List.{drop_more, get_or-map, length-map, length-take-le, length_push, map-append, take_all, take_more}
+use Rattle.snap_fits.specs.Sessions.{exported}
+use Rattle.snap_model.specs.SortedMap.{Pairs}
+use Rattle.snap_model.specs.declared.command.Command.{Command}
+use Rattle.snap_model.specs.declared.command.Reply.{Reply}
+use Rattle.snap_text.specs.Replies.{reply_text}
+use Rattle.snap_text.specs.Tables.{table_text}
+use Rattle.snap_text.specs.declared.script.Line.{Line}
+use Rattle.snap_steps.specs.Seen.{Known}
+use Rattle.snap_service.specs.Courses.{course}
+use Rattle.snap_text.specs.LoadFiles.{Loads}
+use Rattle.snap_service.specs.Runs.{CanRunAll, HasServed, ServesOn}
+use Rattle.snap_service.specs.Serving.{CanRun, Serves, text_of}
+use Rattle.snap_service.specs.States.{AreSeated, State, Tables, most_uses}
+use Rattle.snap_service.proofs.Admitting.{number_is}
+use Rattle.snap_crew.specs.Answers.{AreOf, exported_file, full_of, fulls_with, lines_with, table_files}
+use Rattle.snap_crew.specs.Works.{CanWork, HasRun, HasWorked, IsNumbered, commands_of}
+use Rattle.snap_crew.specs.declared.answers.Answers.{Answers}
+use Rattle.snap_crew.proofs.Replying.{few_fulls, file_exported, fulls_more, lines_more}
+
+-- the commands so far were run, and the others can be
+pub record IsAt (loads : Loads) (w : ℕ) (commands : List Command) (i : ℕ) (answers : Answers) (first now : State) : Type 0 where
+  pub replies : List Reply
+  pub exports : List (List ℕ × Pairs)
+  pub served : HasServed loads w (take i commands) replies exports now
+  pub can : CanRunAll now loads (drop i commands)
+  pub few : most_uses now.passes ≤ most_uses first.passes + i * 2 ^ 22
+  pub tables : now.tables ≡ first.tables
+  pub many : length replies ≡ i
+  pub answered : AreOf (take i commands) replies exports answers
+
+pub at_start : (loads : Loads) (w : ℕ) (commands : List Command) (answers : Answers) (s : State) → CanWork loads w s commands → answers.lines.items ≡ [] → answers.exports.items ≡ [] → answers.full ≡ 0 → IsAt loads w commands 0 answers s s
+at_start loads w commands answers s can lines files full = record {
+  replies = [];
+  exports = [];
+  served = can.begins;
+  can = can.can;
+  few = omega arith;
+  tables = refl;
+  many = refl;
+  answered = record { lines = lines; files = files; full = full };
+}
+
+pub command_at : (script : List Line) (i : ℕ) (line : Line) → i < length script → line ≡ get_or script i line → line.command ≡ get_or (commands_of script) i line.command
+command_at script i line l is = ap (λ (x : Line). x.command) is ∙ sym (get_or-map (λ (x : Line). x.command) script i line line.command l)
+
+pub command_within : (script : List Line) (i : ℕ) → i < length script → i < length (commands_of script)
+command_within script i l = omega (arith, l, length-map script (λ (x : Line). x.command))
+
+module _ (loads : Loads) (w : ℕ) (commands : List Command) (i : ℕ) (answers : Answers) (first now : State) (c : Command) (l : i < length commands) (is : c ≡ get_or commands i c) (h : IsAt loads w commands i answers first now) where
+  rest : drop i commands ≡ c ∷ drop (i + 1) commands
+  rest = drop_more commands i c l ∙ ap (λ (x : Command). x ∷ drop (i + 1) commands) (sym is)
+
+  done : take (i + 1) commands ≡ take i commands ++ c ∷ []
+  done = take_more commands i c l ∙ ap (λ (x : Command). take i commands ++ x ∷ []) (sym is)
+
+  here : CanRunAll now loads (c ∷ drop (i + 1) commands)
+  here = subst (λ (cs : List Command). CanRunAll now loads cs) rest h.can
+
+  pub can_run : CanRun now loads c
+  can_run = here.0
+
+  pub few_full : answers.full ≤ i
+  few_full = let a = h.answered in omega (arith, a.full, few_fulls h.replies, h.many)
+
+  pub one_more : (r : Reply) (more : Answers) (next : State) (text : List ℕ) → more.lines.items ≡ answers.lines.items ++ reply_text c r → more.exports.items ≡ answers.exports.items ++ exported_file c text → more.full ≡ answers.full + full_of r → text ≡ text_of now c
+      → Serves loads now c r next → ServesOn loads now c r next → next.tables ≡ now.tables → most_uses next.passes ≤ most_uses now.passes + 2 ^ 22
+      → IsAt loads w commands (i + 1) more first next
+  one_more r more next text lines files full wrote serves on tables uses =
+      let a = h.answered in let cs = take i commands in let new = exported (course w now) c in
+      let both : length cs ≡ length h.replies = length-take-le i commands (omega (arith, l)) ∙ sym h.many in
+      record {
+        replies = h.replies ++ r ∷ [];
+        exports = h.exports ++ new;
+        served = subst (λ (xs : List Command). HasServed loads w xs (h.replies ++ r ∷ []) (h.exports ++ new) next) (sym done) (on w cs h.replies h.exports h.served);
+        can = here.1 r next serves;
+        few = omega (arith, uses, h.few);
+        tables = tables ∙ h.tables;
+        many = omega (arith, h.many, length_push h.replies r);
+        answered = record {
+          lines = lines ∙ ap (λ (x : List ℕ). x ++ reply_text c r) a.lines ∙ sym (lines_more cs h.replies c r both) ∙ ap (λ (xs : List Command). lines_with xs (h.replies ++ r ∷ [])) (sym done);
+          files = files ∙ ap (λ (x : List (List ℕ × List ℕ)). x ++ exported_file c text) a.files
+              ∙ ap (λ (x : List (List ℕ × List ℕ)). table_files h.exports ++ x) (ap (exported_file c) wrote ∙ file_exported now loads w c can_run)
+              ∙ sym (map-append (λ (e : List ℕ × Pairs). (e.0, table_text e.1)) h.exports new);
+          full = full ∙ ap (λ (n : ℕ). n + full_of r) a.full ∙ sym (fulls_more h.replies r);
+        };
+      }
+
+pub has_run : (loads : Loads) (w : ℕ) (commands : List Command) (i : ℕ) (answers : Answers) (first now : State) → length commands ≤ i → IsAt loads w commands i answers first now → HasRun loads w commands answers now
+has_run loads w commands i answers first now past h =
+    let all : take i commands ≡ commands = take_all i commands past in
+    record {
+      replies = h.replies;
+      exports = h.exports;
+      served = subst (λ (cs : List Command). HasServed loads w cs h.replies h.exports now) all h.served;
+      answered = subst (λ (cs : List Command). AreOf cs h.replies h.exports answers) all h.answered;
+    }
+
+pub numbered : (loads : Loads) (w : ℕ) (commands : List Command) (tables : Tables) (passes : List Known) (answers : Answers) → HasWorked loads w commands tables passes answers → IsNumbered w passes
+numbered loads w commands tables passes answers h = let r = h.ran in subst (IsNumbered w) (sym h.left) (number_is loads w h.state commands r.replies r.exports r.served)

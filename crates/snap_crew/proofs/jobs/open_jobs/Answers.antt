@@ -1,0 +1,46 @@
+use Rattle.std.specs.Prelude.{slice_index_or}
+use Rattle.std.proofs.Common.{ℕ, ◌≡◌, ◌<◌, ◌+◌, List, [], ◌∷◌, ◌++◌, length, sym, ap, subst, ◌∙◌, arith}
+use Rattle.snap_steps.specs.Seen.{Known}
+use Rattle.snap_text.specs.declared.script.Line.{Line}
+use Rattle.snap_service.specs.States.{AreSeated, new_kit}
+use Rattle.snap_service.proofs.Ending.{fewer_is, last_is, one_less}
+use Rattle.snap_crew.specs.Jobs.{IsJob}
+use Rattle.snap_crew.specs.Works.{commands_of}
+use Rattle.snap_crew.specs.declared.crew.Job.{Job}
+use Rattle.std.proofs.lemmas.List.{length_push}
+use Rattle.snap_crew.proofs.Beginning.{can_work, mirror_next, new_seated, place_is, straight}
+use Rattle.snap_crew.proofs.jobs.open_jobs.Goals as goal
+
+pub open-requires : goal.open-requires
+open-requires c =
+    let v = c.loop-kit.invariant in let fewer = c.pop.new.self.items in let kit = c.in-Some.kit in
+    let one = one_less c.args.kits.items c.loop-kit.left.items fewer kit v.left c.in-Some.ensures.items in
+    let is : kit ≡ new_kit c.args.service.now.laid (length fewer) = last_is c.args.kits.items c.loop-kit.left.items fewer kit v.left c.in-Some.ensures.items [] ∙ c.requires.kits (length fewer) [] (omega (arith, one, v.all, c.requires.a_kit_each)) in
+    subst (λ (k : List Known). AreSeated c.args.service.now k) (sym is) (new_seated c.args.service.now (length fewer))
+
+pub loop-kit-preserved : goal.loop-kit-preserved
+loop-kit-preserved c =
+    let v = c.loop-kit.invariant in let fewer = c.pop.new.self.items in let kit = c.in-Some.kit in let scripts = c.args.scripts.now in let place = c.len-place.result in
+    let one = one_less c.args.kits.items c.loop-kit.left.items fewer kit v.left c.in-Some.ensures.items in
+    let within : length fewer < length scripts = omega (arith, one, v.all, c.requires.a_kit_each) in
+    let here : place ≡ length fewer = omega (arith, c.len-place.ensures, c.pop.new.self.ok.0) in
+    let is : kit ≡ new_kit c.args.service.now.laid (length fewer) = last_is c.args.kits.items c.loop-kit.left.items fewer kit v.left c.in-Some.ensures.items [] ∙ c.requires.kits (length fewer) [] within in
+    let script : (d : List Line) → c.lines.result.now ≡ slice_index_or scripts (length fewer) d = λ d. c.lines.ensures ∙ place_is scripts place (length fewer) c.index-scripts-place.result d within here c.index-scripts-place.is in
+    let job : Job = record { session = c.in-Ok.session; script = c.lines.result; who = place } in
+    record {
+      left = fewer_is c.args.kits.items c.loop-kit.left.items fewer kit v.left c.in-Some.ensures.items;
+      all = omega (arith, ap length c.in_ok-push.ensures.items, length_push c.loop-kit.jobs.items job, one, v.all);
+      jobs = λ d. mirror_next (length c.args.kits.items) c.loop-kit.jobs.items c.push.new.self.items (λ i x. IsJob c.args.loads.now c.args.service.now (commands_of (slice_index_or scripts i d)) i x)
+          (length c.loop-kit.left.items) (length fewer) job one v.all c.in_ok-push.ensures.items
+          (record {
+            who_is = here;
+            commands_are = ap commands_of (script d);
+            on = ap (λ x. x.tables) c.in-Ok.ensures.ok;
+            can = can_work c.args.loads.now c.args.service.now (length fewer) kit c.in-Ok.session (commands_of (slice_index_or scripts (length fewer) d)) is c.in-Ok.ensures.ok c.in-Ok.ensures.begins (c.requires.scripts (length fewer) d within);
+          }) (v.jobs d);
+    }
+
+pub returns-clause-each : goal.returns-clause-each
+returns-clause-each c = let v = c.loop-kit.invariant in let none = c.in_default.ensures in λ i d e l.
+    straight (length c.args.kits.items) c.loop-kit.jobs.items c.reverse.new.self.items (λ k job. IsJob c.args.loads.now c.args.service.now (commands_of (slice_index_or c.args.scripts.now k d)) k job)
+    (omega (arith, v.all, none.cases.0, c.loop-kit.left.ok.0)) c.reverse.ensures.items (v.jobs d) i e (omega (arith, l, c.requires.a_kit_each))

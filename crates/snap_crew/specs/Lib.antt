@@ -1,0 +1,5 @@
+pub mod Answers
+pub mod Works
+pub mod Jobs
+pub mod Mirrors
+pub mod Endings

@@ -1,0 +1,55 @@
+-- What a worker begins with, what it hands over, and what the closed tables make of it.
+use Rattle.std.specs.Prelude.{◌≡◌, ◌<◌, ◌≤◌, ◌+◌, ◌*◌, ◌^◌, ℕ, List, [], length, map, unwrap_or}
+use Rattle.snap_fits.specs.Fits.{Fits, Front, Setting, Told}
+use Rattle.snap_model.specs.SortedMap.{Pairs}
+use Rattle.snap_model.specs.declared.command.Command.{Command}
+use Rattle.snap_model.specs.declared.command.Reply.{Reply}
+use Rattle.snap_steps.specs.Ending.{Ended}
+use Rattle.snap_steps.specs.Seen.{Known}
+use Rattle.snap_text.specs.declared.script.Line.{Line}
+use Rattle.snap_service.specs.Courses.{fronts_of, setting}
+use Rattle.snap_text.specs.LoadFiles.{Loads}
+use Rattle.snap_service.specs.Runs.{CanRunAll, HasServed}
+use Rattle.snap_service.specs.States.{AreSeated, State, Tables, most_uses, pass_at}
+use Rattle.snap_crew.specs.Answers.{AreOf, AreTold}
+use Rattle.snap_crew.specs.declared.answers.Answers.{Answers}
+
+-- the commands of a script
+abbrev pub commands_of : List Line → List Command
+commands_of lines = map (λ line. line.command) lines
+
+-- a session of worker w that has run nothing, and commands that it can run
+pub record CanWork (loads : Loads) (w : ℕ) (s : State) (commands : List Command) : Type 0 where
+  pub begins : HasServed loads w [] [] [] s
+  pub can : CanRunAll s loads commands
+  pub few : most_uses s.passes + length commands * 2 ^ 22 ≤ 2 ^ 47
+
+-- the session of worker w has run these commands, and the answers are of their replies and exports
+pub record HasRun (loads : Loads) (w : ℕ) (commands : List Command) (answers : Answers) (s : State) : Type 0 where
+  pub replies : List Reply
+  pub exports : List (List ℕ × Pairs)
+  pub served : HasServed loads w commands replies exports s
+  pub answered : AreOf commands replies exports answers
+
+-- worker w has run these commands on these tables, and left these passes and answers
+pub record HasWorked (loads : Loads) (w : ℕ) (commands : List Command) (tables : Tables) (passes : List Known) (answers : Answers) : Type 0 where
+  pub state : State
+  pub ran : HasRun loads w commands answers state
+  pub on : state.tables ≡ tables
+  pub left : passes ≡ state.passes
+  pub seated : AreSeated tables passes
+
+-- the number of each of these passes
+abbrev pub IsNumbered : ℕ → List Known → Type 0
+IsNumbered w passes = (t : ℕ) → t < length passes → (pass_at passes t).view.who ≡ w
+
+-- at the closed tables the commands of worker w fit, each with its reply at some moment, and the answers tell just that
+pub record HasFit (s : Setting) (fronts : ℕ → Front) (w : ℕ) (commands : List Command) (answers : Answers) : Type 0 where
+  pub told : List Told
+  pub ran : map (λ (t : Told). t.command) told ≡ commands
+  pub fits : Fits s w fronts told
+  pub answered : AreTold s fronts told answers
+
+-- what worker w did that left these passes fits the closed tables
+abbrev pub FitsIf : Tables → ℕ → List Known → List Ended → Type 0
+FitsIf tables w passes fronts = (loads : Loads) (cs : List Command) (answers : Answers) → HasWorked loads w cs tables passes answers → HasFit (setting tables loads) (fronts_of fronts) w cs answers
