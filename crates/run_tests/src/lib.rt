@@ -1,0 +1,11 @@
+//! Tests of whole runs, over a shelf and a sink in memory.
+#![tactic(auto)]
+
+#[cfg(test)]
+mod asserts;
+#[cfg(test)]
+mod cases;
+#[cfg(test)]
+mod long;
+#[cfg(test)]
+mod meeting;

@@ -1,0 +1,125 @@
+-- A plan that was carried out, from what its workers handed over and what was written and told.
+use Rattle.std.specs.Prelude.{AllPairs, IfSome, MatchResult, OnErr, OnOk, IfErr, IfOk, is_some, map, sum_by, unwrap_or}
+use Rattle.std.specs.Option.{option_or, option_to_list}
+use Rattle.std.proofs.Common.{zero, suc, ◌≡◌, ◌≢◌, ◌⊎◌, ◌<◌, ◌≤◌, ◌+◌, ◌*◌, ◌^◌, ℕ, Bool, true, false, List, [], ◌∷◌, ◌++◌, Option, Some, None, Result, Ok, Err, length, get_or, inl, inr, refl, sym, ◌∙◌, ap, ap₂, subst, append-nil, append_assoc, arith}
+use Rattle.std.proofs.lemmas.List.{length-map}
+use Rattle.std.proofs.lemmas.List.Sums.{sum_by-le}
+use Rattle.snap_fits.specs.Fits.{Fits, Front, Setting, Told}
+use Rattle.snap_io.specs.Causes.{Rose}
+use Rattle.snap_io.specs.Shelves.{Changes, Files}
+use Rattle.snap_model.specs.declared.command.Reply.{Reply}
+use Rattle.snap_steps.specs.Ending.{Ended}
+use Rattle.snap_text.specs.declared.script.Line.{Line}
+use Rattle.snap_service.specs.Courses.{fronts_of}
+use Rattle.snap_service.specs.Kits.{OnlyWorkers as ServiceWorkers}
+use Rattle.snap_crew.specs.Answers.{fulls_of, fulls_with}
+use Rattle.snap_crew.specs.Endings.{AreWorkers, IsFinished}
+use Rattle.snap_crew.specs.Works.{HasFit, commands_of}
+use Rattle.snap_crew.specs.declared.answers.Answers.{Answers}
+use Rattle.snap_crew.specs.declared.scripts.Finished.{Finished}
+use Rattle.snap_crew.proofs.Replying.{few_fulls, fulls_told}
+use Rattle.snap_plan.specs.Needs.{AllNew, all_commands, exports_named}
+use Rattle.snap_plan.specs.Runnable.{IsRunnable, files_written}
+use Rattle.snap_plan.specs.declared.plan.Plan.{Plan}
+use Rattle.snap_write.specs.Outputs.{HasBegun, HasWritten, IsUnwritten, Outputs, blank, names_of, text_for}
+use Rattle.snap_run.specs.Files.{answer_files, answers_in, export_files, exports_in, last_file, last_in, outputs, replies_in, reply_files, setting_for}
+use Rattle.snap_run.specs.Outcomes.{OnlyWorkers}
+use Rattle.snap_run.specs.Printed.{entries, first_line, fulls, summary, table_lines}
+use Rattle.snap_run.specs.Reports.{fulls_in, lines_in, summary_in}
+use Rattle.snap_run.proofs.Pairs.{Differ, new_differ}
+use Rattle.snap_run.proofs.Told.{AllFit, all_fit, names_append, told_entries, told_exports, told_fits, told_fulls, told_many, told_names, told_ran, told_replies, tolds}
+use Rattle.snap_run.proofs.Writes.{last_is, last_names, reply_names}
+
+-- no more replies are full than there are commands
+full_told : (ts : List Told) → fulls_of ts ≤ length ts
+full_told ts = let few = few_fulls (map (λ (t : Told). t.reply) ts) in omega (arith, few, fulls_told ts, length_replies ts)
+  where
+    length_replies : (ts : List Told) → length (map (λ (t : Told). t.reply) ts) ≡ length ts
+    length_replies ts = length-map ts (λ (t : Told). t.reply)
+
+pub full_entries : (told : List (List Told)) → fulls told ≤ entries told
+full_entries [] = omega arith
+full_entries (ts ∷ told) = omega (arith, full_told ts, full_entries told)
+
+one_differs : (last : Option (List ℕ)) → Differ (option_to_list last)
+one_differs None i j d l m same = omega (arith, l, m)
+one_differs (Some name) i j d l m same = omega (arith, l, m)
+
+answers_are : (replies : Option (List (List ℕ))) (s : Setting) (fronts : ℕ → Front) (xs : List (List Line)) (bs : List Answers) (h : AllFit s fronts 0 xs bs) → answers_in replies bs ≡ answer_files replies s fronts (tolds s fronts 0 xs bs h)
+answers_are None s fronts xs bs h = refl
+answers_are (Some names) s fronts xs bs h = ap₂ (λ (a b : Outputs). a ++ b) (told_replies s fronts names 0 xs bs h) (told_exports s fronts 0 xs bs h)
+
+module _ (plan : Plan) (runs : IsRunnable plan) (replied : IfSome plan.replies (λ names. length names ≡ length plan.scripts)) (f : Finished) (fin : IsFinished plan.tables plan.rows plan.loads plan.scripts (is_some plan.last) f) where
+  abbrev s : Setting
+  s = setting_for plan
+
+  abbrev fronts : ℕ → Front
+  fronts = fronts_of f.fronts
+
+  abbrev bs : List Answers
+  bs = f.answers.items
+
+  pub fit : AllFit s fronts 0 plan.scripts bs
+  fit = all_fit s fronts 0 plan.scripts bs fin.answers_each (λ i d a l. (let e : i ≡ 0 + i = omega arith in subst (λ (n : ℕ). HasFit s fronts n (commands_of (get_or plan.scripts i d)) (get_or bs i a)) e (fin.fits i d a l)))
+
+  abbrev pub told : List (List Told)
+  told = tolds s fronts 0 plan.scripts bs fit
+
+  abbrev pub outs : Outputs
+  outs = answers_in plan.replies bs ++ last_in plan.last f.last
+
+  pub outs_are : outs ≡ outputs plan told f.fronts
+  outs_are = ap₂ (λ (a b : Outputs). a ++ b) (answers_are plan.replies s fronts plan.scripts bs fit) (last_is plan.last f.last (fronts 0) fin.text)
+
+  pub text_are : summary_in plan.scripts bs plan.tables f.fronts ≡ summary plan told f.fronts
+  text_are = ap (λ (n : ℕ). first_line n (lines_in plan.scripts) (fulls_in bs) ++ table_lines plan.tables f.fronts) (sym (told_many s fronts 0 plan.scripts bs fit))
+      ∙ ap (λ (n : ℕ). first_line (length told) n (fulls_in bs) ++ table_lines plan.tables f.fronts) (told_entries s fronts 0 plan.scripts bs fit)
+      ∙ ap (λ (n : ℕ). first_line (length told) (entries told) n ++ table_lines plan.tables f.fronts) (told_fulls s fronts 0 plan.scripts bs fit)
+
+  pub fulls_are : fulls_in bs ≡ fulls told
+  fulls_are = told_fulls s fronts 0 plan.scripts bs fit
+
+  pub few_commands : lines_in plan.scripts < 2 ^ 63
+  few_commands = let all = sum_by-le (λ (x : List Line). length x) 1000300 plan.scripts (λ i d l. (let x = runs.scripts i d l in x.few)) in omega (arith, all, runs.few_scripts)
+
+  pub few_full : fulls_in bs < 2 ^ 63
+  few_full = omega (arith, few_commands, told_entries s fronts 0 plan.scripts bs fit, full_entries told, fulls_are)
+
+  pub only_workers : (t : ℕ) → OnlyWorkers (length plan.scripts) ((t ≡ 0) × (plan.last ≢ None)) (fronts t)
+  only_workers t = by plan.last refl
+    where
+      by : (o : Option (List ℕ)) → plan.last ≡ o → OnlyWorkers (length plan.scripts) ((t ≡ 0) × (plan.last ≢ None)) (fronts t)
+      by None e = let w = fin.workers in let x = w.only t in record { entries = x.entries; cuts = x.cuts; own = inl (w.uncut (ap is_some e) t) }
+      by (Some name) e = let w = fin.workers in let x = w.only t in record {
+        entries = x.entries;
+        cuts = x.cuts;
+        own = elim x.final [ inl none ↦ inl none | inr one ↦ inr ((one.0, λ no. (let both : Some name ≡ None = sym e ∙ no in absurd cc)), one.1) ];
+      }
+
+  -- the files that are written all differ
+  pub files_differ : Differ (names_of outs)
+  files_differ = by plan.replies refl
+    where
+      last_named : names_of (last_in plan.last f.last) ≡ option_to_list plan.last
+      last_named = ap names_of (last_is plan.last f.last (fronts 0) fin.text) ∙ last_names plan.last (fronts 0)
+
+      by : (o : Option (List (List ℕ))) → plan.replies ≡ o → Differ (names_of (answers_in o bs ++ last_in plan.last f.last))
+      by None e = subst (λ (ns : List (List ℕ)). Differ ns) (sym last_named) (one_differs plan.last)
+      by (Some names) e =
+          let many : length names ≡ length plan.scripts = subst (λ (o : Option (List (List ℕ))). IfSome o (λ ns. length ns ≡ length plan.scripts)) e replied in
+          let named : names_of (answers_in (Some names) bs ++ last_in plan.last f.last) ≡ files_written plan =
+          names_append (replies_in names bs ++ exports_in bs) (last_in plan.last f.last)
+          ∙ ap₂ (λ (a b : List (List ℕ)). a ++ b)
+          (names_append (replies_in names bs) (exports_in bs)
+          ∙ ap₂ (λ (a b : List (List ℕ)). a ++ b) (reply_names names bs (omega (arith, many, fin.answers_each))) (ap names_of (told_exports s fronts 0 plan.scripts bs fit) ∙ told_names s fronts 0 plan.scripts bs fit))
+          last_named
+          ∙ append_assoc names (exports_named (all_commands plan.scripts)) (option_to_list plan.last)
+          ∙ ap (λ (o : Option (List (List ℕ))). unwrap_or o [] ++ (exports_named (all_commands plan.scripts) ++ option_to_list plan.last)) (sym e) in
+          subst (λ (ns : List (List ℕ)). Differ ns) (sym named) (new_differ (files_written plan) runs.written)
+
+  pub a_worker_each : length (unwrap_or plan.replies []) ≤ length bs
+  a_worker_each = by plan.replies replied
+    where
+      by : (o : Option (List (List ℕ))) → IfSome o (λ ns. length ns ≡ length plan.scripts) → length (unwrap_or o []) ≤ length bs
+      by None h = omega arith
+      by (Some names) h = omega (arith, h, fin.answers_each)

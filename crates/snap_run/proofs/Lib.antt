@@ -1,0 +1,10 @@
+pub mod Results
+pub mod Pairs
+pub mod Told
+pub mod Writes
+pub mod Summaries
+pub mod Tasks
+pub mod Carried
+pub mod Settled
+pub mod Whole
+pub mod Ended

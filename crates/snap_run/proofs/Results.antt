@@ -1,0 +1,63 @@
+-- Facts of results, and of what was written before a failure.
+use Rattle.std.specs.Prelude.{◌||◌, IsErrAnd, IfErr, IfOk, OnErr, OnOk, bytes_eq}
+use Rattle.std.specs.List.{list_any}
+use Rattle.std.proofs.Common.{◌≡◌, ◌≤◌, ℕ, Bool, true, false, List, [], ◌∷◌, ◌++◌, Option, Some, None, inl, inr, Result, Ok, Err, refl, sym, ◌∙◌, ap, subst, arith}
+use Rattle.std.proofs.lemmas.List.Folds.{list_any-append}
+use Rattle.snap_io.specs.Causes.{Rose}
+use Rattle.snap_io.specs.Shelves.{Changes, Files}
+use Rattle.snap_io.specs.Sinks.{Puts}
+use Rattle.snap_write.specs.Outputs.{HasBegun, IsUnwritten, Outputs, names_of}
+use Rattle.snap_run.specs.Files.{IsWrittenOr}
+use Rattle.snap_run.specs.Worlds.{Tells}
+use Rattle.snap_write.specs.declared.unwritten.Unwritten.{Unwritten}
+use Rattle.snap_write.proofs.Causes.{unwritten_wider}
+
+pub on_ok : {T E : Type 0} (r : Result T E) (P Q : Type 0) → (P → Q) → OnOk r P → OnOk r Q
+on_ok (Ok x) P Q f h = f h
+on_ok (Err e) P Q f h = tt
+
+pub on_err_as : {T E : Type 0} (r : Result T E) (P Q : Type 0) → (P → Q) → OnErr r P → OnErr r Q
+on_err_as (Ok x) P Q f h = tt
+on_err_as (Err e) P Q f h = f h
+
+pub if_err_as : {T E : Type 0} (r : Result T E) (P Q : E → Type 0) → ((e : E) → P e → Q e) → IfErr r P → IfErr r Q
+if_err_as (Ok x) P Q f h = tt
+if_err_as (Err e) P Q f h = f e h
+
+pub if_ok_as : {T E : Type 0} (r : Result T E) (P Q : T → Type 0) → ((x : T) → P x → Q x) → IfOk r P → IfOk r Q
+if_ok_as (Ok x) P Q f h = f x h
+if_ok_as (Err e) P Q f h = tt
+
+any_left : (xs ys : List (List ℕ)) (name : List ℕ) → list_any (λ known. bytes_eq known name) xs ≡ true → list_any (λ known. bytes_eq known name) (xs ++ ys) ≡ true
+any_left xs ys name is = list_any-append (λ known. bytes_eq known name) xs ys ∙ ap (λ b. b || list_any (λ known. bytes_eq known name) ys) is
+
+any_right : (xs ys : List (List ℕ)) (name : List ℕ) → list_any (λ known. bytes_eq known name) ys ≡ true → list_any (λ known. bytes_eq known name) (xs ++ ys) ≡ true
+any_right xs ys name is = list_any-append (λ known. bytes_eq known name) xs ys ∙ ap (λ b. list_any (λ known. bytes_eq known name) xs || b) is ∙ or_true (list_any (λ known. bytes_eq known name) xs)
+  where
+    or_true : (a : Bool) → (a || true) ≡ true
+    or_true true = refl
+    or_true false = refl
+
+-- one of the first files, or one of the later ones, could not be written
+pub stop_left : (xs ys : List (List ℕ)) (fault wider : Type 0) (w : Unwritten) → (fault → wider) → IsUnwritten xs fault w → IsUnwritten (xs ++ ys) wider w
+stop_left xs ys fault wider w rises u = unwritten_wider xs (xs ++ ys) fault wider w (λ name is. any_left xs ys name is) rises u
+
+pub stop_right : (xs ys : List (List ℕ)) (fault wider : Type 0) (w : Unwritten) → (fault → wider) → IsUnwritten ys fault w → IsUnwritten (xs ++ ys) wider w
+stop_right xs ys fault wider w rises u = unwritten_wider ys (xs ++ ys) fault wider w (λ name is. any_right xs ys name is) rises u
+
+-- a text that was put is told
+pub told_by : {T E : Type 0} (before now : Option (List ℕ)) (text : List ℕ) (r : Result T E) (rose : Type 0) → Puts before now text r → OnErr r rose → Tells before now rose text
+told_by None None text r rose puts failed = inl tt
+told_by None (Some n) text r rose puts failed = absurd puts
+told_by (Some b) None text r rose puts failed = absurd puts
+told_by (Some b) (Some n) text (Ok x) rose puts failed = inl puts
+told_by (Some b) (Some n) text (Err e) rose puts failed = inr (failed, record { part = puts.0; is = puts.1 })
+
+-- a failure among files
+pub err_or : (files : Outputs) (old new : Option Files) (fault : Type 0) (r : Result (Unit {0}) Unwritten) (w : Unwritten) → IsErrAnd r (λ e. e ≡ w) → Changes old new (HasBegun files) → IsUnwritten (names_of files) fault w → IsWrittenOr files old new fault r
+err_or files old new fault (Ok u) w is begun stops = absurd is
+err_or files old new fault (Err e) w is begun stops = (begun, subst (λ x. IsUnwritten (names_of files) fault x) (sym is) stops)
+
+pub both_ok : {T E : Type 0} (r : Result T E) (P Q R : T → Type 0) → ((x : T) → P x → Q x → R x) → IfOk r P → IfOk r Q → IfOk r R
+both_ok (Ok x) P Q R f p q = f x p q
+both_ok (Err e) P Q R f p q = tt

@@ -1,0 +1,26 @@
+use Rattle.std.specs.String.{string_bytes}
+use Rattle.std.proofs.Common.{List, ℕ, inr, map}
+use Rattle.snap_words.specs.Words.{job_of}
+use Rattle.snap_run.specs.Worlds.{world}
+use Rattle.snap_run.proofs.Ended.{carried_by, of_made, stop_status}
+use Rattle.snap_run.proofs.running.run.Goals as goal
+
+pub returns-in-Ok-clause-good : goal.returns-in-Ok-clause-good
+returns-in-Ok-clause-good g c = λ enough.
+    let ws : List (List ℕ) = map string_bytes c.args.words.now in
+    let now = world (g.S.Shelf.files c.carry_out.new.shelf) (g.K.Sink.written c.carry_out.new.sink) (g.S.Shelf.read_faults c.carry_out.new.shelf) (g.S.Shelf.write_faults c.carry_out.new.shelf) (g.K.Sink.faults c.carry_out.new.sink) in
+    inr (record {
+      plan = c.in-Ok.plan;
+      of_words = record { asked = c.in-Ok.ensures.asked; runnable = c.in-Ok.ensures.runnable; gives = c.in-Ok.ensures.plan; made = of_made (job_of ws) _ _ (λ made both. both.1) c.in-Ok.ensures.made };
+      carried = carried_by (g.S.Shelf.files c.args.shelf.now) (g.S.Shelf.files c.accept.new.shelf) (g.K.Sink.written c.args.sink.now) (g.S.Shelf.read_faults c.args.shelf.now) (g.S.Shelf.read_faults c.accept.new.shelf)
+          (g.S.Shelf.write_faults c.args.shelf.now) (g.S.Shelf.write_faults c.accept.new.shelf) (g.K.Sink.faults c.args.sink.now) now c.in-Ok.plan c.carry_out.result
+          c.accept.ensures.files c.accept.ensures.writes (c.carry_out.ensures.carried enough);
+    })
+
+pub returns-in-Err-clause-status : goal.returns-in-Err-clause-status
+returns-in-Err-clause-status g c =
+    let ws : List (List ℕ) = map string_bytes c.args.words.now in
+    stop_status ws (g.S.Shelf.files c.args.shelf.now) c.in-Err.stop c.tell.result
+    (world (g.S.Shelf.files c.args.shelf.now) (g.K.Sink.written c.args.sink.now) (g.S.Shelf.read_faults c.args.shelf.now) (g.S.Shelf.write_faults c.args.shelf.now) (g.K.Sink.faults c.args.sink.now))
+    (world (g.S.Shelf.files c.accept.new.shelf) (g.K.Sink.written c.tell.new.sink) (g.S.Shelf.read_faults c.accept.new.shelf) (g.S.Shelf.write_faults c.accept.new.shelf) (g.K.Sink.faults c.tell.new.sink))
+    _ c.in-Err.ensures.words_refused c.in-Err.ensures.stops c.tell.ensures

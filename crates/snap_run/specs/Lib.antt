@@ -1,0 +1,5 @@
+pub mod Worlds
+pub mod Files
+pub mod Printed
+pub mod Reports
+pub mod Outcomes

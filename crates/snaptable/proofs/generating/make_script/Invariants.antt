@@ -1,5 +1,0 @@
-use Rattle.snaptable.proofs.Generated.{IsMade}
-use Rattle.snaptable.proofs.generating.make_script.Given as goal
-
-abbrev pub invariant-loop-drawn : goal.invariant-loop-drawn
-invariant-loop-drawn l = IsMade l.seed l.workers l.worker l.drawn l.script l.number
