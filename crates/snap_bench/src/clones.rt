@@ -2,8 +2,8 @@
 ghost use Rattle.std.specs.Prelude.{◌≤◌};
 
 use crate::fault::Fault;
-use crate::keys::spread;
-use crate::workers::{OfTable, Sorted, Worker, open_table, workers_of};
+use crate::keys::{Order, spread};
+use crate::workers::{OfTable, Sorted, Worker, fill, open_table, workers_of};
 use std::alloc::Global;
 use std::sync::Wait;
 use std::sync::atomic::{AtomicU64, Ordering};
@@ -33,7 +33,7 @@ pub fn clone_cost<R: Wait + Clock>(rt: &R, alloc: Global, size: u32) -> Result<C
     let Some(mut worker) = workers.pop() else {
         return Err(Fault::Out);
     };
-    fill(rt, &mut worker, size)?;
+    fill(rt, &mut worker, size, Order::AsIfByLot)?;
     let clone = time_clones(rt, &mut worker)?;
     let before = worker.drawn_rows();
     worker.put(rt, spread(size / 2), 0)?;
@@ -65,7 +65,7 @@ pub fn count_cost<R: Wait + Clock>(
     let Some(mut worker) = workers.pop() else {
         return Err(Fault::Out);
     };
-    fill(rt, &mut worker, size)?;
+    fill(rt, &mut worker, size, Order::AsIfByLot)?;
     let mut view = worker.clone_view(rt)?;
     let apart = u64::MAX / size.max(1) as u64;
     let high = apart.saturating_mul(wanted as u64);
@@ -75,14 +75,6 @@ pub fn count_cost<R: Wait + Clock>(
     view.release();
     let nanos = u64::try_from(taken).unwrap_or(u64::MAX);
     Ok(CountCost { pairs, nanos })
-}
-
-// Puts so many keys in an order as if by lot.
-fn fill<R, W: Worker<R>>(rt: &R, worker: &mut W, size: u32) -> Result<(), Fault> {
-    for number in 0..size {
-        worker.put(rt, spread(number), number as u64)?;
-    }
-    Ok(())
 }
 
 fn time_clones<R: Wait + Clock>(rt: &R, worker: &mut OfTable<'_>) -> Result<u64, Fault> {
@@ -125,7 +117,7 @@ pub fn scan_rate<R: Threads + Wait + Clock + Sync>(
     let Some(mut reader) = workers.pop() else {
         return Err(Fault::Out);
     };
-    fill(rt, &mut reader, size)?;
+    fill(rt, &mut reader, size, Order::AsIfByLot)?;
     let ended = AtomicU64::new(0);
     let shared = &ended;
     let scanned = thread::scope(thread::scope_env(), rt, |scope| -> Result<u64, Fault> {

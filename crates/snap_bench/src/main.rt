@@ -1,6 +1,10 @@
-//! How fast threads put, get and remove on one map: a table beside the standard sorted map under a lock.
+//! How fast threads put, get and remove on one map: a table beside the standard sorted map under a lock. And what
+//! clones cost, and balance.
 #![tactic(auto)]
 
+ghost use Rattle.std.specs.Prelude.{◌≤◌};
+
+mod balance;
 mod clones;
 mod contest;
 mod fault;
@@ -8,9 +12,12 @@ mod keys;
 mod rounds;
 mod workers;
 
+use balance::{Balance, balance_of};
 use clones::{CloneCost, CountCost, clone_cost, count_cost, scan_rate};
 use fault::Fault;
+use keys::Order;
 use rounds::{Rates, of_mutex, of_rwlock, of_table};
+use snap_view::Settled;
 use std::alloc::Global;
 use std::env;
 use std::io::Print;
@@ -24,7 +31,7 @@ const CALLS: u32 = 1_000_000;
 /// How many threads each round has.
 const THREADS: [u32; 3] = [1, 2, 4];
 
-/// How large the maps are of which clones are made.
+/// How large the maps are that are cloned, or filled and looked at.
 const SIZES: [u32; 4] = [1_000, 10_000, 100_000, 1_000_000];
 
 /// About how many pairs of the largest clone are counted.
@@ -40,10 +47,12 @@ fn main(rt: HostRuntime) -> Result<(), Fault> {
         None => {
             println!(rt; "snap_bench maps: puts, gets and removals of several threads")?;
             println!(rt; "snap_bench clones: what clones cost")?;
+            println!(rt; "snap_bench balance: what puts take, and how deep they leave a table")?;
             Ok(())
         }
         Some(word) if word.as_str() == "maps" => time_maps(&rt, rt.alloc()),
         Some(word) if word.as_str() == "clones" => time_clones(&rt, rt.alloc()),
+        Some(word) if word.as_str() == "balance" => time_balance(&rt, rt.alloc()),
         Some(_) => Err(Fault::Usage),
     }
 }
@@ -99,5 +108,41 @@ fn time_clones<R: Print + Threads + Wait + Clock + Sync>(
         let rate = scan_rate(rt, alloc, 100_000, writers)?;
         println!(rt; "{writers}, {rate}")?;
     }
+    Ok(())
+}
+
+fn time_balance<R: Print + Wait + Clock>(rt: &R, alloc: Global) -> Result<(), Fault> {
+    println!(rt; "keys, order, nanoseconds of a put, rows drawn, depth, settled")?;
+    for size in SIZES {
+        show_balance(rt, alloc, size, Order::Rising)?;
+        show_balance(rt, alloc, size, Order::AsIfByLot)?;
+        show_balance(rt, alloc, size, Order::Golden)?;
+    }
+    Ok(())
+}
+
+fn show_balance<R: Print + Wait + Clock>(
+    rt: &R,
+    alloc: Global,
+    size: u32,
+    order: Order,
+) -> Result<(), Fault>
+    requires { size ≤ 1_000_000 }
+{
+    let Balance { put, drawn, shape } = balance_of(rt, alloc, size, order)?;
+    let name = match order {
+        Order::Rising => "rising",
+        Order::AsIfByLot => "as if by lot",
+        Order::Golden => "golden",
+    };
+    let settled = match shape.settled {
+        Settled::Yes => "yes",
+        Settled::RowsOut { .. } => "no, rows were out",
+        Settled::StampOut { .. } => "no, a stamp was out",
+    };
+    println!(rt;
+        "{size}, {name}, {put}, {drawn}, {}, {settled}",
+        shape.depth
+    )?;
     Ok(())
 }

@@ -3,6 +3,7 @@ ghost use Rattle.std.specs.Prelude.{All, IfOk, ◌<◌, ◌≤◌};
 ghost use Rattle.snap_bench.specs.Passes.{IsAtRest};
 
 use crate::fault::Fault;
+use crate::keys::Order;
 use snap_table::{Pass, SnapTable};
 use snap_view::TableView;
 use std::alloc::Global;
@@ -20,6 +21,14 @@ pub trait Worker<R> {
 
     /// The value at the key.
     fn get(&mut self, rt: &R, key: u64) -> Option<u64>;
+}
+
+/// Puts so many different keys in this order.
+pub fn fill<R, W: Worker<R>>(rt: &R, worker: &mut W, size: u32, order: Order) -> Result<(), Fault> {
+    for place in 0..size {
+        worker.put(rt, order.key(place), place as u64)?;
+    }
+    Ok(())
 }
 
 /// A pass of a table.
