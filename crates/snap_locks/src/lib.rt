@@ -41,6 +41,3 @@ pub fn unlock(rows: &Rows, pass: &mut Pass, row: RowNo)
 {
     free_lock(rows, pass, row);
 }
-
-#[cfg(test)]
-mod tests;

@@ -3,14 +3,13 @@ use Rattle.std.proofs.Common.{◌≡◌, ◌≢◌, ℕ, ◌+◌, ◌<◌, ◌�
 use native.Mathlib.Decide.{ℕ_discrete}
 use mathlib.Core.Logic.{dite}
 use Rattle.std.specs.List.{AllByRecursion as Every}
-use Rattle.snap_rule.specs.Tree.{Tree, root, Stands, OnWay, Between, EachRow}
+use Rattle.snap_rule.specs.Tree.{Tree, root, Stands, Between, EachRow}
 use Rattle.snap_stamp.specs.declared.side.Side.{Side}
 use Rattle.snap_stamp.specs.declared.side.Side.TheVariants.{Left, Right}
 use Rattle.snap_rule.specs.Tree.Tree.{empty, node}
-use Rattle.snap_rule.specs.State.{State, In, WasLinked, IsShared, Reads}
+use Rattle.snap_rule.specs.State.{State, In, Reads}
 use Rattle.snap_stamp.specs.Stamps.{IsUnmarked}
 use Rattle.snap_rule.specs.Evolves.{Evolves, SameRow}
-use Rattle.snap_rule.specs.Position.{IsPlaced, PlaceOk}
 use Rattle.snap_rule.specs.Quiescence.{QuietOk, IsCalm, CalmOk, word, IsSo}
 use Rattle.snap_rule.specs.declared.quiescence.Load.{Load}
 use Rattle.snap_rule.specs.Rule.{TreeOk, ChangesOk, NoneWrites, Fits}
@@ -69,30 +68,6 @@ calm_node s low high c (node m a b) z e r o u =
 
 pub calm_row : (s : State) (low high c : ℕ) → c ≢ 0 → IsCalm s low high c → CalmRow s low high c
 calm_row s low high c z a = calm_node s low high c a.part z a.top a.reads a.ordered a.rows
-
--- a place that a write found stays one while nothing is cut
-pub place_kept : (s s' : State) (k n v : ℕ) → Evolves s s' → s'.epoch ≡ s.epoch → PlaceOk s k n v → PlaceOk s' k n v
-place_kept s s' k n v ev same h =
-    let g = ev.stamp n h.stamp.reached in
-    record {
-      stamp = record { reached = reached h.stamp.reached; unmarked = h.stamp.unmarked; recorded = omega (arith, h.stamp.recorded) };
-      placed = λ e. let q : s.stamp n ≡ v = omega (arith, h.stamp.recorded) in go (rw q h.stamp.unmarked) (e ∙ sym q) h.stamp.reached (h.placed q);
-    }
-  where
-    reached : WasLinked s n → WasLinked s' n
-    reached (inl z) = inl z
-    reached (inr i) = inr (ev.linked n i)
-
-    still : ¬ IsShared s n → In n s.linked → IsPlaced s' s'.history n k → (n ≡ 0) ⊎ (¬ IsShared s' n) × OnWay s'.tree k n
-    still u i (inl z) = inl z
-    still u i (inr (inl w)) = inr w
-    still u i (inr (inr o)) = absurd (u (record { is_row = o.shared.is_row; older = let a = o.shared.older in let b = ev.birth n i in omega arith }))
-
-    go : IsUnmarked (s.stamp n) → s'.stamp n ≡ s.stamp n → WasLinked s n → (n ≡ 0) ⊎ (¬ IsShared s n) × OnWay s.tree k n
-        → (n ≡ 0) ⊎ (¬ IsShared s' n) × OnWay s'.tree k n
-    go m e i (inl z) = inl z
-    go m e (inl z) (inr w) = inl z
-    go m e (inr i) (inr w) = still w.0 i (ev.place n k w.1 w.0 m e)
 
 -- trouble tells that a write was entered
 load_so : (s : State) (x : Load) (l : List Load) → In x l → Every (IsSo s) l → word s x.row x.field ≡ x.found

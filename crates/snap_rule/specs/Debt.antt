@@ -5,7 +5,7 @@ pub mod Lists
 pub mod Step
 pub mod Kinds
 pub mod Changes
-use Rattle.std.specs.Prelude.{List, None, Some, [], ℕ, ◌+◌, ◌∷◌, ◌≡◌, ◌≤◌, ◌⊎◌}
+use Rattle.std.specs.Prelude.{List, None, Some, [], ℕ, ◌∷◌, ◌≡◌, ◌≤◌, ◌⊎◌}
 use Rattle.snap_rule.specs.Rule.{IsLive}
 use Rattle.snap_rule.specs.Settled.{IsSettled}
 use Rattle.snap_rule.specs.State.{In, State}
@@ -52,7 +52,3 @@ pub record DebtOk (s : State) (debts : ℕ → Debt) : Type 0 where
   pub settled : (n : ℕ) → Stands n s.tree → IsSettled s n ⊎ IsOwed s debts n
   pub each : (j : ℕ) → DebtFits s (debts j)
   pub alone : (i j n : ℕ) → (debts j).turning ≡ Some n → Owes s (debts i) n → i ≡ j
-
--- each pass holds the row that it is lowering
-abbrev pub Turns : State → (ℕ → Debt) → Type 0
-Turns s debts = (j n : ℕ) → (debts j).turning ≡ Some n → s.lock n ≡ j + 1

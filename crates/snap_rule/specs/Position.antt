@@ -38,8 +38,3 @@ pub record IsStanding (s : State) (seen : List Entry) (k n v : ℕ) (d : Side) :
   pub stamp : IsRecorded s n v
   pub faces : Faces s n k d
   pub placed : s.stamp n ≡ v → IsPlaced s seen n k
-
--- the place that a write found for k: as long as n has the stamp v, k belongs there
-pub record PlaceOk (s : State) (k n v : ℕ) : Type 0 where
-  pub stamp : IsRecorded s n v
-  pub placed : s.stamp n ≡ v → (n ≡ 0) ⊎ (¬ IsShared s n) × OnWay s.tree k n

@@ -1,6 +1,6 @@
 //! Repair debt: what a pass owes, and what holds of the debts of all passes.
 
-ghost use Rattle.snap_rule.specs.Laws.Debts.{DebtDoingKept, DebtSteps, FitsKept, FreeKnown, KeylessOwes, TurnedConcerns, TurnsKept, UnderRoom, UnmarkedStays};
+ghost use Rattle.snap_rule.specs.Laws.Debts.{DebtDoingKept, DebtSteps, FitsKept, TurnedConcerns, UnderRoom};
 
 use snap_stamp::{Key, RowNo, Stamp};
 use std::collections::LinkedList;
@@ -29,26 +29,6 @@ pub fn debt_steps()
 /// Debts are spoken of only while there is room, so a law under room before the step serves.
 pub fn under_room()
     ensures { UnderRoom }
-{}
-
-/// A row that a pass holds is lowered by no other pass.
-pub fn free_known()
-    ensures { FreeKnown }
-{}
-
-/// The row that a pass is lowering stays locked by it.
-pub fn turns_kept()
-    ensures { TurnsKept }
-{}
-
-/// A live row without a mark stays on its paths while its stamp stays, at every step but a cut.
-pub fn unmarked_stays()
-    ensures { UnmarkedStays }
-{}
-
-/// A pass without a to-do key owes nothing.
-pub fn keyless_owes()
-    ensures { KeylessOwes }
 {}
 
 /// Another pass's step keeps a debt: the rows that are owed stay live and on their path.

@@ -1,6 +1,6 @@
 //! Heights that were loaded under a lock.
 
-ghost use Rattle.snap_rule.specs.Laws.Heights.{ChildLoaded, HeightsApart, HeightsHeight, HeldWords, LoadedKept, LoadedSettled};
+ghost use Rattle.snap_rule.specs.Laws.Heights.{ChildLoaded, HeightsApart, HeightsHeight, HeldWords, LoadedSettled};
 
 /// A step that leaves a row alone and stores no height keeps the heights below the row.
 pub fn heights_apart()
@@ -25,9 +25,4 @@ pub fn loaded_settled()
 /// The height of a child is that of the row that the loaded link names.
 pub fn child_loaded()
     ensures { ChildLoaded }
-{}
-
-/// A step of another pass keeps what was loaded.
-pub fn loaded_kept()
-    ensures { LoadedKept }
 {}

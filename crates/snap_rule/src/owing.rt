@@ -1,6 +1,6 @@
 //! Each kind of step keeps the debts.
 
-ghost use Rattle.snap_rule.specs.Laws.DebtKinds.{AimOwes, ClearOwes, CopyOwes, CutOwes, HeightOwes, LeafOwes, LeaveOwes, OpensOwes, OwnSilent, RaiseOwes, RaiseTurns, ShrinkOwes, ShrinkTurns, SilentKinds, SilentOwes, StoreOwes, TurnKept, UnlinkOwes, UpOwes};
+ghost use Rattle.snap_rule.specs.Laws.DebtKinds.{AimOwes, ClearOwes, CopyOwes, CutOwes, HeightOwes, LeafOwes, LeaveOwes, OpensOwes, OwnSilent, RaiseOwes, RaiseTurns, ShrinkOwes, SilentKinds, SilentOwes, StoreOwes, TurnKept, UnlinkOwes, UpOwes};
 
 /// `store_value` keeps the debts.
 pub fn store_owes()
@@ -77,12 +77,7 @@ pub fn clear_owes()
     ensures { ClearOwes }
 {}
 
-/// After `mark_shrinking` the pass is lowering the row, and owes it.
-pub fn shrink_turns()
-    ensures { ShrinkTurns }
-{}
-
-/// So it is after `link_parent`.
+/// After `link_parent` the pass is lowering the row, and owes it.
 pub fn raise_turns()
     ensures { RaiseTurns }
 {}

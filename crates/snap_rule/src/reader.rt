@@ -1,6 +1,6 @@
 //! Readers: the points of a way, what every step keeps of them, and what each load tells.
 
-ghost use Rattle.snap_rule.specs.Laws.Readers.{KeyDiffers, KeyMatches, LinkAgain, LinkFound, LinkNone, NoneAnswered, NoneConfirmed, PlaceKept, PositionKept, ReaderKept, RowConfirmed, StampLoaded, ValueLoaded, WayStarts};
+ghost use Rattle.snap_rule.specs.Laws.Readers.{KeyDiffers, KeyMatches, LinkAgain, LinkFound, LinkNone, NoneAnswered, NoneConfirmed, PositionKept, ReaderKept, RowConfirmed, StampLoaded, ValueLoaded, WayStarts};
 
 use snap_stamp::{Key, RowNo, Side, Stamp};
 
@@ -69,11 +69,6 @@ pub fn position_kept()
 /// A step that evolves the table keeps what is known at each point.
 pub fn reader_kept()
     ensures { ReaderKept }
-{}
-
-/// Within one epoch it keeps the place that a write found.
-pub fn place_kept()
-    ensures { PlaceKept }
 {}
 
 /// A way starts at row 0.

@@ -1,6 +1,6 @@
 //! Settled rows and trees, and room to repair.
 
-ghost use Rattle.snap_rule.specs.Laws.Settled.{AllSettled, CutCause, FewStand, PairsFew, QuietShallow, ReasonLasts, RoomBefore, SettledShallow, SharedSettled, StampFound};
+ghost use Rattle.snap_rule.specs.Laws.Settled.{AllSettled, CutCause, FewStand, PairsFew, ReasonLasts, RoomBefore, SettledShallow, SharedSettled, StampFound};
 
 /// Room after a step gives room before it.
 pub fn room_before()
@@ -25,11 +25,6 @@ pub fn all_settled()
 /// A settled tree is shallow.
 pub fn settled_shallow()
     ensures { SettledShallow }
-{}
-
-/// So is the tree of a table with room where no pass owes.
-pub fn quiet_shallow()
-    ensures { QuietShallow }
 {}
 
 /// A tree of some depth has fewer pairs than the full one.

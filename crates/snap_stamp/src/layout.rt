@@ -57,24 +57,3 @@ fn place_of(field: Field) -> u64
         Field::Value => 7,
     }
 }
-
-#[cfg(test)]
-mod tests {
-    use super::*;
-
-    #[test]
-    fn rows_follow_the_header(rt: HostRuntime) {
-        assert_eq!(rt; words_of(1), 24);
-        for (row, field, word) in [
-            (0, Field::Key, 8),
-            (0, Field::Right, 14),
-            (0, Field::Value, 15),
-            (1, Field::Key, 16),
-            (1, Field::Stamp, 18),
-            (5, Field::Birth, 49),
-            (5, Field::Left, 53),
-        ] {
-            assert_eq!(rt; word_at(RowNo::of(row), field), word, "at {row}");
-        }
-    }
-}

@@ -40,15 +40,3 @@ impl RowNo {
         self.0 == 0
     }
 }
-
-#[cfg(test)]
-mod tests {
-    use super::*;
-
-    #[test]
-    fn the_holder_is_row_zero(rt: HostRuntime) {
-        assert!(rt; RowNo::HOLDER.is_none());
-        assert!(rt; !RowNo::of(3).is_none());
-        assert_eq!(rt; RowNo::of(3).number(), 3);
-    }
-}

@@ -33,15 +33,3 @@ impl Side {
         }
     }
 }
-
-#[cfg(test)]
-mod tests {
-    use super::*;
-
-    #[test]
-    fn smaller_keys_are_left(rt: HostRuntime) {
-        assert_eq!(rt; Side::toward(10, 5), Side::Left);
-        assert_eq!(rt; Side::toward(5, 10), Side::Right);
-        assert_eq!(rt; Side::Left.other(), Side::Right);
-    }
-}

@@ -97,24 +97,3 @@ impl Stamp {
         Stamp(self.0 + UNLINKED)
     }
 }
-
-#[cfg(test)]
-mod tests {
-    use super::*;
-
-    #[test]
-    fn a_stamp_through_a_life(rt: HostRuntime) {
-        let born = Stamp::of(0);
-        let lowering = born.begin();
-        assert_eq!(rt; lowering.word(), 2);
-        assert!(rt; lowering.is_shrinking() && !lowering.is_unlinked());
-        let lowered = Stamp::of(2).finish();
-        assert_eq!(rt; lowered.word(), 4);
-        assert_eq!(rt; lowered.count(), 1);
-        let gone = Stamp::of(4).unlink();
-        assert_eq!(rt; gone, Stamp::of(5));
-        assert!(rt; gone.is_unlinked() && !gone.is_shrinking());
-        assert!(rt; !Stamp::of(18_446_744_073_709_551_611).is_last());
-        assert!(rt; Stamp::of(18_446_744_073_709_551_612).is_last());
-    }
-}

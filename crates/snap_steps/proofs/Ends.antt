@@ -8,11 +8,12 @@ use lib.ListN.{get_elem?}
 use Rattle.snap_model.specs.History.{IsLegal, calls_of}
 use Rattle.snap_model.specs.declared.call.Entry.{Entry}
 use Rattle.snap_steps.specs.Counting.{total, times, one_if}
-use Rattle.snap_steps.specs.Ending.{Ended, SpeaksForAll, KnowsAll, Closes}
-use Rattle.snap_steps.specs.Numbers.{numbers, numbers_of, all_cuts}
+use Rattle.snap_steps.specs.Ending.{Ended, SpeaksForAll, KnowsAll, NamesAll, Closes}
+use Rattle.snap_steps.specs.Numbers.{numbers, numbers_of, all_cuts, all_drawn, times_drawn}
 use Rattle.snap_steps.specs.Pairs.{adds, takes, kept_sum}
 use Rattle.snap_steps.specs.Roles.{own_number, is_counted, is_live}
 use Rattle.snap_steps.specs.Rule.{Kept}
+use Rattle.snap_steps.specs.Rule.Drawn.{AreDrawn}
 use Rattle.snap_steps.specs.Rule.History.{AreTheirs, saw_all, whole}
 use Rattle.snap_steps.specs.Rule.Names.{names}
 use Rattle.snap_steps.specs.Seen.{Known, CountsPairs}
@@ -125,10 +126,25 @@ module _ (about : About) (words : List ℕ) (views : List View) (k : Kept about 
   none_owes : (j : ℕ) (u : View) → j ≢ id → get_elem? views j ≡ some u → owes_count u.stage ≡ 0
   none_owes j u ne there = ap owes_count (k.acting j u there (no_pass j u ne there)).0
 
+  admits_none : (f : Admitted → ℕ) (j : ℕ) (u : View) → j ≢ id → get_elem? views j ≡ some u → total f u.admitted ≡ 0
+  admits_none f j u ne there = none_admitted f u.admitted (omega (arith, no_number (numbers u) (not_theirs j u ne there), length-append (own_number u.role u.who) (numbers_of u.admitted)))
+
   none_cut : (j : ℕ) (u : View) → j ≢ id → get_elem? views j ≡ some u → all_cuts u ≡ 0
-  none_cut j u ne there =
-      let none : length (numbers_of u.admitted) ≡ 0 = omega (arith, no_number (numbers u) (not_theirs j u ne there), length-append (own_number u.role u.who) (numbers_of u.admitted)) in
-      omega (arith, ap length (k.acting j u there (no_pass j u ne there)).1, none_admitted (λ (a : Admitted). length a.cuts) u.admitted none)
+  none_cut j u ne there = omega (arith, ap length (k.acting j u there (no_pass j u ne there)).1, admits_none (λ (a : Admitted). length a.cuts) j u ne there)
+
+  none_drawn : (j : ℕ) (u : View) → j ≢ id → get_elem? views j ≡ some u → all_drawn u ≡ 0
+  none_drawn j u ne there = omega (arith, ap length (k.acting j u there (no_pass j u ne there)).2, admits_none (λ (a : Admitted). length a.drawn) j u ne there)
+
+  times_none : (r j : ℕ) (u : View) → j ≢ id → get_elem? views j ≡ some u → times_drawn r u ≡ 0
+  times_none r j u ne there = omega (arith, ap (times r) (k.acting j u there (no_pass j u ne there)).2, admits_none (λ (a : Admitted). times r a.drawn) j u ne there)
+
+  drew : (drawn : ℕ) → drawn ≡ k.m.next → AreDrawn drawn (v ∷ [])
+  drew drawn next = record {
+    once = λ r above low. omega (arith, k.drawn.once r above (omega arith), total_alone (times_drawn r) views id v at (times_none r));
+    none_later = λ r l. omega (arith, k.drawn.none_later r (omega arith), total_alone (times_drawn r) views id v at (times_none r));
+    none_zero = omega (arith, k.drawn.none_zero, total_alone (times_drawn 0) views id v at (times_none 0));
+    all = omega (arith, next, k.drawn.all, total_alone all_drawn views id v at none_drawn);
+  }
 
   seen_whole : length k.g.history ≤ length v.seen
   seen_whole = dite (ℕ_discrete (length k.g.history) 0) (λ z. omega (arith, z))
@@ -150,6 +166,14 @@ module _ (about : About) (words : List ℕ) (views : List View) (k : Kept about 
     others = λ i none. ap (λ (l : List Entry). calls_of l i) seen_is ∙ k.history.others i (total_alone (names i) views id v at (λ j u ne there. not_theirs j u ne there i) ∙ none);
   }
 
+  names_all : NamesAll v
+  names_all = let few = k.used.few id v at in record {
+    once = λ i l. omega (arith, all i l, once i);
+    none_later = λ i l. omega (arith, k.named.below i (omega (arith, passes_are, l)), term_le (names i) views id v at);
+    uses = omega (arith, few.0, ap (λ r. length (own_number r v.who)) passing);
+    theirs = few.1;
+  }
+
   pub knows_cuts : v.epochs ≤ all_cuts v
   knows_cuts = omega (arith, k.cut, total_alone all_cuts views id v at none_cut, (k.notes id v at).epochs_are)
 
@@ -166,11 +190,13 @@ module _ (about : About) (words : List ℕ) (views : List View) (k : Kept about 
       record {
         last = λ i. record { table = last.table; view = is i };
         knows = knows_all;
+        names = names_all;
         writes = count;
         few = omega (arith, count, small);
         pairs = omega (arith, a, t, balance, few, is_added, is_taken, count);
         handed = omega (arith, next, (k.notes id v at).handed_is);
         drawn = omega (arith, next, rows_are, k.memory.room);
+        drew = drew drawn next;
         epochs = knows_cuts;
         state = record { about = about; rows_are = sym rows_are; passes_are = sym passes_are; words = words; views = views; id = id; at = at; kept = k; next = next; worn = k.worn id v at };
       }

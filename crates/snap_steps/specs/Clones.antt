@@ -64,7 +64,7 @@ pub record IsWeighed (rows next : ℕ) (t : Tree) (balance : Balance) : Type 0 w
   pub few : size t ≤ next
   pub low : next ≤ rows
 
--- the seat of a clone: its table and how many rows that has, the history and, in its parts, the tree at the cut, how many rows were handed out then and whether the tree is settled, the word `next` as it was loaded since, whether the seat noted a stamp at its greatest count, and the rows with such a stamp that it found
+-- the seat of a clone: its table and how many rows that has, the history and, in its parts, the tree at the cut, how many rows were handed out then and whether the tree is settled, the word `next` as it was loaded since, the greatest `next` and `epoch` that its pass had noted, whether the pass or the seat noted a stamp at its greatest count, and the rows with such a stamp that the seat found
 pub record Cloned : Type 0 where
   pub table : TableId
   pub rows : ℕ
@@ -73,6 +73,8 @@ pub record Cloned : Type 0 where
   pub drawn : ℕ
   pub balance : Balance
   pub next : ℕ
+  pub handed : ℕ
+  pub epochs : ℕ
   pub worn : Bool
   pub outworn : List ℕ
 

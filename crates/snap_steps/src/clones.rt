@@ -5,9 +5,11 @@ ghost use Rattle.snap_rule.specs.Tree.{Stands, root, value_of};
 ghost use Rattle.snap_stamp.specs.declared.layout.Field.{Field};
 ghost use Rattle.snap_steps.specs.Clones.{image, image_of, IsNotedSince, TellsWord, IsLink};
 ghost use Rattle.snap_steps.specs.Copies.{IsCloneAt, clone_of, with_stamp, CopiesRow};
-ghost use Rattle.snap_steps.specs.Seen.{IsOf};
+ghost use Rattle.snap_steps.specs.Seen.{IsOf, Becomes};
 ghost use Rattle.snap_steps.specs.Stages.{has_cut};
 ghost use Rattle.snap_steps.specs.Steps.Clones.{seat_of, root_loaded, writes_counted, copied, stamp_loaded, TellsCause};
+ghost use Rattle.snap_steps.specs.Steps.Header.{noted};
+ghost use Rattle.snap_steps.specs.declared.view.WordNote.TheVariants.{Done};
 
 use crate::counter::Steps;
 use crate::fields::index_of;
@@ -33,7 +35,7 @@ impl Model for ViewSeat {
 
     ghost Value = { Cloned };
 
-    ghost view = { λ v. record { table = v.seat.table_id; rows = v.seat.me.0.rows; base = v.seat.me.0.base.history; parts = v.seat.me.0.base.parts; drawn = v.seat.me.0.base.drawn; balance = v.seat.me.0.base.balance; next = v.next; worn = v.seat.me.0.worn; outworn = v.seat.me.0.outworn } };
+    ghost view = { λ v. record { table = v.seat.table_id; rows = v.seat.me.0.rows; base = v.seat.me.0.base.history; parts = v.seat.me.0.base.parts; drawn = v.seat.me.0.base.drawn; balance = v.seat.me.0.base.balance; next = v.next; handed = v.seat.me.0.handed; epochs = v.seat.me.0.epochs; worn = v.seat.me.0.worn; outworn = v.seat.me.0.outworn } };
 
     ghost invariant = { λ v. IsSeatOfClone v.seat.me v.top };
 }
@@ -94,13 +96,13 @@ pub fn load_root(rows: &Rows, pass: &mut Pass) -> RowNo
 }
 
 /// How many writes the table has had, as long as the pass that has cut keeps the gate closed. All of them stand in the
-/// clone's history, and so does all that the pass has seen.
+/// clone's history, and so does all that the pass has seen. It leaves a note of what it found.
 pub fn count_writes(rows: &Rows, pass: &mut Pass) -> u64
     requires table { IsOf pass.old rows.now }
     requires cut { has_cut pass.old.view.stage ≡ 1 }
     ensures writes { result ≡ length pass.old.view.base.history }
     ensures seen { Begins pass.old.view.seen pass.old.view.base.history }
-    ensures pass { pass.new ≡ pass.old }
+    ensures pass { Becomes pass.old pass.new (noted pass.old.view (Done result)) }
 {
     rows.table.shared.load::<CountWrites>(&mut pass.seat, 3)
 }

@@ -4,7 +4,7 @@ ghost use Rattle.std.specs.Prelude.{◌≡◌, ◌+◌, ◌<◌, ℕ};
 use std::marker::Model;
 use std::sync::ledger::{Blank, Book, Ledger, Share};
 
-/// How many rows were read. It takes no bytes, and only `tick` changes it.
+/// How many rows were read. It takes no bytes, and only `load_row` counts on.
 #[derive(Drop)]
 pub struct Steps<L: Ledger> {
     book: Book<L>,
@@ -32,7 +32,7 @@ impl<L: Ledger> Steps<L> {
     }
 
     /// Counts one more.
-    pub fn tick(&mut self)
+    pub(crate) fn tick(&mut self)
         ensures { self.new ≡ self.old + 1 }
     {
         self.book.add(&mut self.share, 1);

@@ -49,7 +49,7 @@ pub use locks::{free_lock, try_lock};
 pub use pass::{Note, Pass, Receipt};
 pub use rotating::{clear_shrinking, link_lowered, link_raised};
 pub use rows::Rows;
-pub use seats::{admit, finish, learn, note};
+pub use seats::{admit, finish, learn, note, take_back};
 pub use settling::{load_height, store_height};
 pub use trying::{Busy, begin_try, load_busy_gate, try_last_word, try_next_word};
 pub use turning::link_parent;

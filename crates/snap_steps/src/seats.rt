@@ -1,12 +1,15 @@
-//! Seats that are cut in two and joined: notes from one pass to another, and passes that end.
+//! Seats that are cut in two and joined: notes from one pass to another, seats of clones that are given back, and passes
+//! that end.
 ghost use Rattle.std.specs.Prelude.{◌≡◌};
 ghost use Rattle.snap_model.specs.History.{Begins};
+ghost use Rattle.snap_steps.specs.Copies.{TakesBack};
 ghost use Rattle.snap_steps.specs.Histories.{Extends};
 ghost use Rattle.snap_steps.specs.Roles.{gone};
 ghost use Rattle.snap_steps.specs.Seen.{IsOf, Becomes};
 ghost use Rattle.snap_steps.specs.Steps.Seats.{note_of, heard, learned, with_admitted, took, made_sure};
 ghost use Rattle.snap_steps.specs.declared.view.Stage.TheVariants.{Idle};
 
+use crate::clones::ViewSeat;
 use crate::pass::{Note, Pass, Receipt};
 use crate::rows::Rows;
 use crate::view::View;
@@ -61,6 +64,24 @@ pub fn learn(rows: &Rows, pass: &mut Pass, note: Note)
     ensures { (seen : _) × Extends pass.old.view seen × Begins note.view.seen seen × Becomes pass.old pass.new (heard pass.old.view note.view seen) }
 {
     let Note { seat } = note;
+    rows.table
+        .shared
+        .join_seat::<JoinNote>(&mut pass.seat, seat);
+    rows.table.shared.load::<Sure>(&mut pass.seat, 0);
+}
+
+/// Gives the seat of a clone back: the pass then knows of a stamp at its greatest count that the seat noted. It has seen
+/// what it and the clone's base had, which is nothing more for the pass that has cut the clone.
+pub fn take_back(rows: &Rows, pass: &mut Pass, view: ViewSeat)
+    requires pass { IsOf pass.old rows.now }
+    requires view { view.table ≡ pass.old.table }
+    ensures { TakesBack pass.old pass.new view }
+{
+    let ViewSeat {
+        seat,
+        top: _,
+        next: _,
+    } = view;
     rows.table
         .shared
         .join_seat::<JoinNote>(&mut pass.seat, seat);

@@ -22,6 +22,7 @@ pub struct Admitted {
     pub mine: LinkedList<Entry>,
     pub cuts: LinkedList<u64>,
     pub uses: u64,
+    pub drawn: LinkedList<u32>,
 }
 
 /// What a seat is.

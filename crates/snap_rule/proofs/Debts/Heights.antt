@@ -63,15 +63,3 @@ pub child_loaded : (s : State) (n : ℕ) (d : Side) (c : ℕ) → TableOk s → 
 child_loaded s n d c ok live e q =
     let g : s.links n d ≡ c = sym (true_link s n d ok live e) ∙ q in
     (g, (λ z. ap (height_at s.height) (g ∙ z)), (λ z. ap (height_at s.height) g ∙ at_positive s.height c z))
-
-pub loaded_kept : (s s' : State) (n : ℕ) (x : Loaded) → Apart s s' n → s'.value n ≡ s.value n → s'.height n ≡ s.height n → KeepsHeights s s' n
-    → LoadedOk s n x
-    → LoadedOk s' n x
-loaded_kept s s' n x a v h k ok = record {
-  left = a.links Left ∙ ok.left;
-  right = a.links Right ∙ ok.right;
-  value = v ∙ ok.value;
-  height = h ∙ ok.height;
-  left_height = k Left ∙ ok.left_height;
-  right_height = k Right ∙ ok.right_height;
-}

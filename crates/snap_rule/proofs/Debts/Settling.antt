@@ -1,18 +1,17 @@
 -- The tree that no pass owes.
-use Rattle.std.proofs.Common.{◌≡◌, ◌≢◌, ℕ, zero, suc, ◌*◌, ◌<◌, ◌≤◌, ◌⊎◌, inl, inr, length, Option, Some, None, refl, ap, sym, ◌∙◌, arith}
+use Rattle.std.proofs.Common.{◌≡◌, ◌≢◌, ℕ, zero, suc, ◌<◌, ◌⊎◌, inl, inr, Option, Some, None, refl, ap, sym, ◌∙◌, arith}
 use native.Mathlib.Decide.{dec_lt}
 use mathlib.Core.Logic.{dite}
-use Rattle.snap_rule.specs.Tree.{Tree, root, Stands, value_word, depth, size, pairs}
+use Rattle.snap_rule.specs.Tree.{Tree, root, Stands, value_word}
 use Rattle.snap_stamp.specs.declared.side.Side.TheVariants.{Left, Right}
 use Rattle.snap_rule.specs.Tree.Tree.{empty, node}
 use Rattle.snap_rule.specs.State.{State, IsImage, Reads}
 use Rattle.snap_rule.specs.Rule.{TableOk}
 use Rattle.snap_rule.specs.Kinds.Clones.{cut, MayCut}
 use Rattle.snap_rule.specs.Debt.{OwesNone, DebtOk}
-use Rattle.snap_rule.specs.Settled.{least, height_at, child_height, IsSettled, top_height, HasValue, IsFull, IsSettledTree}
+use Rattle.snap_rule.specs.Settled.{height_at, child_height, IsSettled, top_height, HasValue, IsFull, IsSettledTree}
 use Rattle.snap_rule.specs.Room.{HasReason, HasRoom}
 use Rattle.snap_rule.specs.declared.debt.Debt.{Debt}
-use Rattle.snap_rule.proofs.Trees.Shallow.{settled_shallow}
 use Rattle.snap_rule.proofs.Evolving.Telling.{cut_image}
 use Rattle.snap_rule.proofs.Debts.{balanced_same}
 use Rattle.snap_rule.proofs.Debts.Room.{stamp_found}
@@ -49,11 +48,6 @@ module _ (s : State) where
 
 pub all_settled : (s : State) (debts : ℕ → Debt) → TableOk s → DebtOk s debts → ((j : ℕ) → OwesNone s (debts j)) → IsSettledTree s.tree
 all_settled s debts ok debt none = settled_tree s s.tree ok.tree.reads (λ n h. elim (debt.settled n h) [ inl a ↦ a | inr o ↦ absurd (none o.pass n o.owes) ])
-
-pub quiet_shallow : (s : State) (debts : ℕ → Debt) (next rows : ℕ) → TableOk s → (HasRoom s next rows → DebtOk s debts) → HasRoom s next rows
-    → ((j : ℕ) → OwesNone s (debts j)) → size s.tree ≤ 18446744073709551615
-    → least (depth s.tree) ≤ 2 * length (pairs s.tree)
-quiet_shallow s debts next rows ok debt room none small = settled_shallow s.tree (all_settled s debts ok (debt room) none) small
 
 pub cut_cause : (s : State) (debts : ℕ → Debt) (next rows : ℕ) → TableOk s → MayCut s → (HasRoom s next rows → DebtOk s debts)
     → ((j : ℕ) → OwesNone s (debts j))

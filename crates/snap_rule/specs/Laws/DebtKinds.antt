@@ -106,13 +106,7 @@ abbrev pub OwnSilent : Type 0
 OwnSilent = (s : State) (row k b h v : ℕ) (l : Side → ℕ) → TableOk s → MayStoreOwn s row
     → IsSilent s (own_stored s row k b h v l)
 
--- after `mark_shrinking` the pass is lowering the row, and owes it
-abbrev pub ShrinkTurns : Type 0
-ShrinkTurns = (s : State) (debts : ℕ → Debt) (id parent : ℕ) (p : Side) (row : ℕ) (d : Side) (raised key : ℕ)
-    → TableOk s → MayOweTurn s debts id parent p row d raised key
-    → Turning (shrinking_marked s row) (shrink_debt (shrinking_marked s row) row key (debts id)) row × AimsAtTurn (shrinking_marked s row) (shrink_debt (shrinking_marked s row) row key (debts id)) row raised
-
--- after `link_parent` as well
+-- after `link_parent` the pass is lowering the row, and owes it
 abbrev pub RaiseTurns : Type 0
 RaiseTurns = (s : State) (parent : ℕ) (p : Side) (row : ℕ) (d : Side) (raised : ℕ) (v : Debt) → row ≢ 0
     → Turning (parent_linked s parent p row d raised) (raise_debt s parent row raised v) row

@@ -1,15 +1,13 @@
 -- Debts in general: one law for a step, and what follows from the debts of all passes.
-use Rattle.std.specs.Prelude.{None, Some, ℕ, ◌+◌, ◌≡◌, ◌≢◌, ◌≤◌}
-use Rattle.snap_stamp.specs.Stamps.{IsUnmarked}
-use Rattle.snap_rule.specs.Debt.{DebtFits, DebtOk, Owes, OwesNone, Turns}
+use Rattle.std.specs.Prelude.{Some, ℕ, ◌≡◌, ◌≢◌, ◌≤◌}
+use Rattle.snap_rule.specs.Debt.{DebtFits, DebtOk, Owes}
 use Rattle.snap_rule.specs.Debt.Changes.{DebtDoing}
-use Rattle.snap_rule.specs.Debt.Step.{DebtEvolves, DebtStep, IsFree}
+use Rattle.snap_rule.specs.Debt.Step.{DebtEvolves, DebtStep}
 use Rattle.snap_rule.specs.Doing.{Concerns, DoingOk}
 use Rattle.snap_rule.specs.Evolves.{Evolves}
 use Rattle.snap_rule.specs.Room.{HasRoom}
-use Rattle.snap_rule.specs.Rule.{IsLive, TableOk}
+use Rattle.snap_rule.specs.Rule.{TableOk}
 use Rattle.snap_rule.specs.State.{In, State}
-use Rattle.snap_rule.specs.Tree.{OnWay}
 use Rattle.snap_rule.specs.declared.change.Doing.{Doing}
 use Rattle.snap_rule.specs.declared.debt.Debt.{Debt}
 
@@ -19,33 +17,12 @@ DebtSteps = (s s' : State) (debts debts' : ℕ → Debt) (id : ℕ) → ((j : �
     → DebtOk s debts → DebtStep s s' debts id (debts' id)
     → DebtOk s' debts'
 
--- a row that a pass holds is lowered by no other
-abbrev pub FreeKnown : Type 0
-FreeKnown = (s : State) (debts : ℕ → Debt) (id n : ℕ) → Turns s debts → s.lock n ≡ id + 1 → IsFree debts id n
-
--- a live row without a mark that keeps its stamp stays live and on its paths, at every step but a cut
-abbrev pub UnmarkedStays : Type 0
-UnmarkedStays = (s s' : State) (n : ℕ) → TableOk s → Evolves s s' → s'.epoch ≡ s.epoch → IsLive s n
-    → IsUnmarked (s.stamp n) → s'.stamp n ≡ s.stamp n
-    → IsLive s' n × ((k : ℕ) → OnWay s.tree k n → OnWay s'.tree k n)
-
--- each pass holds the row that it is lowering, after a step too
-abbrev pub TurnsKept : Type 0
-TurnsKept = (s s' : State) (debts debts' : ℕ → Debt) (id : ℕ) → ((j : ℕ) → j ≢ id → debts' j ≡ debts j)
-    → ((j n : ℕ) → j ≢ id → (debts j).turning ≡ Some n → s'.lock n ≡ s.lock n)
-    → ((n : ℕ) → (debts' id).turning ≡ Some n → s'.lock n ≡ id + 1) → Turns s debts
-    → Turns s' debts'
-
 -- debts are spoken of only while there is room, so a law under room before the step is enough
 abbrev pub UnderRoom : Type 0
 UnderRoom = (s s' : State) (next next' rows : ℕ) (debts debts' : ℕ → Debt) → Evolves s s' → next ≤ next'
     → (HasRoom s next rows → DebtOk s debts → DebtOk s' debts') → (HasRoom s next rows → DebtOk s debts)
     → HasRoom s' next' rows
     → DebtOk s' debts'
-
--- a pass without a to-do key owes nothing
-abbrev pub KeylessOwes : Type 0
-KeylessOwes = (s : State) (debts : ℕ → Debt) (j : ℕ) → DebtOk s debts → (debts j).to_do ≡ None → OwesNone s (debts j)
 
 -- what a step leaves to another pass keeps that pass's debt: the rows that it owes stay live and on its path
 abbrev pub FitsKept : Type 0

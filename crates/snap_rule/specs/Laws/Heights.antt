@@ -38,9 +38,3 @@ abbrev pub ChildLoaded : Type 0
 ChildLoaded = (s : State) (n : ℕ) (d : Side) (c : ℕ) → TableOk s → IsParent s n d → s.pending n d ≡ plain
     → s.link n d ≡ c
     → (s.links n d ≡ c) × (c ≡ 0 → child_height s n d ≡ 0) × (c ≢ 0 → child_height s n d ≡ s.height c)
-
--- a step of another pass keeps what was loaded
-abbrev pub LoadedKept : Type 0
-LoadedKept = (s s' : State) (n : ℕ) (x : Loaded) → Apart s s' n → s'.value n ≡ s.value n → s'.height n ≡ s.height n
-    → KeepsHeights s s' n → LoadedOk s n x
-    → LoadedOk s' n x

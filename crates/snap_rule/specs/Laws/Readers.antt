@@ -8,7 +8,7 @@ use Rattle.snap_stamp.specs.declared.side.Side.{Side}
 use Rattle.snap_stamp.specs.declared.side.Side.TheVariants.{Right}
 use Rattle.snap_rule.specs.Evolves.{Evolves}
 use Rattle.snap_rule.specs.Moments.{AtSome}
-use Rattle.snap_rule.specs.Position.{IsPlaced, IsRecorded, PlaceOk}
+use Rattle.snap_rule.specs.Position.{IsPlaced, IsRecorded}
 use Rattle.snap_rule.specs.Reader.{ReaderOk}
 use Rattle.snap_rule.specs.Rule.{TableOk}
 use Rattle.snap_rule.specs.State.{State}
@@ -86,7 +86,3 @@ ValueLoaded = (s : State) (seen : List Entry) (k c : ℕ) → ReaderOk s seen k 
 abbrev pub NoneAnswered : Type 0
 NoneAnswered = (s : State) (seen : List Entry) (k : ℕ) → ReaderOk s seen k ConfirmedNone
     → AtSome seen s.history (λ p. None ≡ told p k)
-
--- as long as no clone is cut, the place of a write stays one while the row has its stamp
-abbrev pub PlaceKept : Type 0
-PlaceKept = (s s' : State) (k n v : ℕ) → Evolves s s' → s'.epoch ≡ s.epoch → PlaceOk s k n v → PlaceOk s' k n v

@@ -30,12 +30,6 @@ AllSettled = (s : State) (debts : ℕ → Debt) → TableOk s → DebtOk s debts
 abbrev pub SettledShallow : Type 0
 SettledShallow = (t : Tree) → IsSettledTree t → size t ≤ greatest_height → least (depth t) ≤ 2 * length (pairs t)
 
--- so it is with the tree of a table with room where no pass owes
-abbrev pub QuietShallow : Type 0
-QuietShallow = (s : State) (debts : ℕ → Debt) (next rows : ℕ) → TableOk s → (HasRoom s next rows → DebtOk s debts)
-    → HasRoom s next rows → ((j : ℕ) → OwesNone s (debts j)) → size s.tree ≤ greatest_height
-    → least (depth s.tree) ≤ 2 * length (pairs s.tree)
-
 -- the pairs of a tree are fewer than the nodes of a full one of its depth
 abbrev pub PairsFew : Type 0
 PairsFew = (t : Tree) → length (pairs t) < 2 ^ depth t

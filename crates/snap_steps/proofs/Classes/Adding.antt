@@ -27,7 +27,7 @@ use Rattle.snap_stamp.specs.declared.layout.Field.TheVariants.{Key, Birth, Stamp
 use Rattle.snap_steps.specs.Counting.{times, total, one_if}
 use Rattle.snap_steps.specs.Rule.Changes.{changing, HoldsIts}
 use Rattle.snap_steps.specs.Steps.Seats.{note_of, issued, next_pass}
-use Rattle.snap_steps.specs.Numbers.{all_uses, numbers_of, numbers, all_cuts}
+use Rattle.snap_steps.specs.Numbers.{all_uses, numbers_of, numbers, all_cuts, all_drawn, times_drawn}
 use Rattle.snap_steps.specs.Stages.{in_write, is_closing, is_quiet, may_cut, owes_count, has_counted}
 use Rattle.snap_steps.specs.Roles.{silent, no_base, is_live, is_opening, opener, own_number, is_counted}
 use Rattle.snap_steps.specs.Rule.Names.{names, ActsAsPass}
@@ -84,9 +84,10 @@ silent_more about words views k rows passes seen handed epochs noted_worn base o
   };
   counted = record { all = omega (arith, k.counted.all, total_more (λ x. owes_count x.stage) views u); few = omega (arith, k.counted.few, total_more (λ x. has_counted x.stage) views u) };
   drawn = record {
-    once = λ r. omega (arith, total_more (λ x. times r x.drawn) views u, k.drawn.once r);
-    none_later = λ r l. omega (arith, total_more (λ x. times r x.drawn) views u, k.drawn.none_later r l);
-    none_zero = omega (arith, total_more (λ x. times 0 x.drawn) views u, k.drawn.none_zero);
+    once = λ r above low. omega (arith, total_more (times_drawn r) views u, k.drawn.once r above low);
+    none_later = λ r l. omega (arith, total_more (times_drawn r) views u, k.drawn.none_later r l);
+    none_zero = omega (arith, total_more (times_drawn 0) views u, k.drawn.none_zero);
+    all = omega (arith, total_more all_drawn views u, k.drawn.all);
   };
   notes = each_more views u k.notes (λ x p. p) record { notes_are = tt; handed_is = low_next; epochs_are = low_epoch; drawn_is = low_drawn };
   gated = record {
@@ -97,7 +98,7 @@ silent_more about words views k rows passes seen handed epochs noted_worn base o
   };
   used = record {
     enough = omega (arith, k.used.enough, total_more (λ x. may_cut x.stage) views u, total_more all_uses views u);
-    few = each_more views u k.used.few (λ x p. p) (omega arith, omega arith);
+    few = each_more views u k.used.few (λ x p. p) (omega arith, tt);
   };
   table = k.table;
   writers = omega (arith, k.writers, total_more (λ x. in_write x.stage) views u);
@@ -123,7 +124,7 @@ silent_more about words views k rows passes seen handed epochs noted_worn base o
   owing = λ room. subst (DebtOk (state_of k.m k.g)) (λ i j. sym (debts_more views u refl j) i) (k.owing room);
   marked = λ n none. k.marked n (omega (arith, none, total_more (λ x. lowers n x.doing) views u));
   cut = omega (arith, k.cut, total_more all_cuts views u);
-  acting = each_more views u k.acting (λ x p. p) (λ _. (refl, refl));
+  acting = each_more views u k.acting (λ x p. p) (λ _. (refl, refl, refl));
   apart = record { low = k.apart.low; own = each_more views u k.apart.own (λ x p. p) (λ r l. absurd (omega arith)); fresh = k.apart.fresh; wrote = each_more views u k.apart.wrote (λ x p. p) tt };
 }
 
@@ -179,10 +180,10 @@ starts about words few_rows few_passes zeros =
       named = record { once = λ i. omega arith; below = λ i l. refl; one_opener = omega arith; unissued = each_one (λ u. u.role ≡ Opening → (i : ℕ) → u.who ≤ i → total (names i) (v ∷ []) ≡ 0) v (λ hands i l. refl) };
       history = record { legal = tt; seen = each_one (IsIn []) v (record { rest = []; is = refl }, tt); longest = omega arith; mine = each_one (IsTrueOf []) v ((λ e. absurd (omega arith)), tt, tt); others = λ i none. refl };
       counted = record { all = refl; few = omega arith };
-      drawn = record { once = λ r. omega arith; none_later = λ r l. refl; none_zero = refl };
+      drawn = record { once = λ r above low. absurd (omega arith); none_later = λ r l. refl; none_zero = refl; all = refl };
       notes = each_one (KnowsHeader 0 0) v record { notes_are = tt; handed_is = omega arith; epochs_are = omega arith; drawn_is = omega arith };
       gated = record { half = refl; one = omega arith; at = each_one (λ u. IsAt 0 u.stage) v tt; quiet = λ some. refl };
-      used = record { enough = omega arith; few = each_one HasFewUses v (omega arith, omega arith) };
+      used = record { enough = omega arith; few = each_one HasFewUses v (omega arith, tt) };
       table = subst TableOk (sym state_is) opens.0;
       writers = refl;
       changes = λ n d none. refl;
@@ -203,7 +204,7 @@ starts about words few_rows few_passes zeros =
       owing = λ room. subst (λ (z : Table). DebtOk z (debts_of (v ∷ []))) (sym state_is) (subst (DebtOk opened) (λ i j. sym (none_at j) i) opens_owes);
       marked = λ n none z. let zero_stamp : IsShrinking 0 = subst (λ (x : Row). IsShrinking x.stamp) (row_empty (about.rows + 1) n) z in omega (arith, zero_stamp);
       cut = refl;
-      acting = each_one ActsAsPass v (λ _. (refl, refl));
+      acting = each_one ActsAsPass v (λ _. (refl, refl, refl));
       apart = record { low = λ r l. absurd (omega arith); own = each_one (IsOwn []) v (λ r l. absurd (omega arith)); fresh = λ r l z. (ap (λ (x : Row). x.lock) (row_empty (about.rows + 1) r), ap (λ (x : Row). x.stamp) (row_empty (about.rows + 1) r)); wrote = each_one (KnowsOwn m.rows) v tt };
     }
   where
@@ -250,9 +251,10 @@ issues about id v hands idle room s k at =
       };
       counted = record { all = omega (arith, k.counted.all, all (λ x. owes_count x.stage)); few = omega (arith, k.counted.few, all (λ x. has_counted x.stage)) };
       drawn = record {
-        once = λ r. omega (arith, all (λ x. times r x.drawn), k.drawn.once r);
-        none_later = λ r l. omega (arith, all (λ x. times r x.drawn), k.drawn.none_later r l);
-        none_zero = omega (arith, all (λ x. times 0 x.drawn), k.drawn.none_zero);
+        once = λ r above low. omega (arith, all (times_drawn r), k.drawn.once r above low);
+        none_later = λ r l. omega (arith, all (times_drawn r), k.drawn.none_later r l);
+        none_zero = omega (arith, all (times_drawn 0), k.drawn.none_zero);
+        all = omega (arith, all all_drawn, k.drawn.all);
       };
       notes = each_split s.views id w u k.notes (λ x p. p) (k.notes id v at) record { notes_are = tt; handed_is = omega arith; epochs_are = omega arith; drawn_is = omega arith };
       gated = record {
@@ -263,7 +265,7 @@ issues about id v hands idle room s k at =
       };
       used = record {
         enough = omega (arith, k.used.enough, all (λ x. may_cut x.stage), all all_uses);
-        few = each_split s.views id w u k.used.few (λ x p. p) (omega (arith, (k.used.few id v at).0, ap (λ r. length (own_number r v.who)) hands, ap (λ r. length (own_number r (v.who + 1))) hands), (k.used.few id v at).1) (omega arith, omega arith);
+        few = each_split s.views id w u k.used.few (λ x p. p) (omega (arith, (k.used.few id v at).0, ap (λ r. length (own_number r v.who)) hands, ap (λ r. length (own_number r (v.who + 1))) hands), (k.used.few id v at).1) (omega arith, tt);
       };
       table = k.table;
       writers = omega (arith, k.writers, all (λ x. in_write x.stage));

@@ -97,7 +97,7 @@ entering about words views k id v at words' rows' e b reached own wrote knows de
       named = named_stays views id v w at about.passes k.named refl refl refl;
       history = history_entered views id v w at k.g.history e k.history k.named.once passing mine_is reply refl refl refl refl refl refl;
       counted = record { all = omega (arith, k.counted.all, length-append k.g.history (e ∷ []), total-set (λ u. owes_count u.stage) views id v w at); few = omega (arith, k.counted.few, total-set (λ u. has_counted u.stage) views id v w at) };
-      drawn = drawn_stays views id v w at k.m.next k.m.next k.drawn (omega arith) (λ x. refl);
+      drawn = drawn_stays views id v w at k.m.next k.m.next k.drawn (omega arith) refl refl;
       notes = each_stays views id v w at (KnowsHeader k.m.next k.m.epoch) k.notes (λ p. p);
       gated = gated_moves views id v w at k.m.gate k.m.left k.m.gate k.m.left g (omega arith) (omega (arith, g.one))
           (λ some_quiet. omega (arith, total-set (λ u. in_write u.stage) views id v w at, g.quiet (omega (arith, total-set (λ u. is_quiet u.stage) views id v w at))))

@@ -8,7 +8,7 @@ use Rattle.snap_steps.specs.Counting.{times}
 use Rattle.snap_steps.specs.Histories.{longer}
 use Rattle.snap_steps.specs.Rule.Changes.{changing}
 use Rattle.snap_steps.specs.Roles.{gone, is_counted, is_opening}
-use Rattle.snap_steps.specs.Numbers.{all_uses, all_cuts}
+use Rattle.snap_steps.specs.Numbers.{all_uses, all_cuts, all_drawn, times_drawn}
 use Rattle.snap_steps.specs.Stages.{in_write, is_closing, is_quiet, may_cut, owes_count, has_counted}
 use Rattle.snap_steps.specs.Rule.Uses.{HasFewUses}
 use Rattle.snap_steps.specs.Rule.Names.{names}
@@ -36,12 +36,13 @@ use Rattle.snap_steps.specs.Rule.Marks.{lowers}
 abbrev pub joined_with : View → View → List Admitted → View
 joined_with v u more = record (learned v u) { admitted = more }
 
--- two seats are joined. The second counts in no write, and its numbers, uses and cuts go over to the first
+-- two seats are joined. The second counts in no write, and its numbers, uses, cuts and draws go over to the first
 pub joining : (about : About) (words : List ℕ) (views : List View) (k : Kept about words views) (id : ℕ) (v : View) (at : get_elem? views id ≡ some v) (other : ℕ) (u : View) (apart : ¬ (other ≡ id)) (more : List Admitted) (there : get_elem? (set views id (joined_with v u more)) other ≡ some u)
     → v.role ≡ Passing → is_opening u.role ≡ 0 → u.stage ≡ Idle
-    → ((i : ℕ) → names i (joined_with v u more) ≡ names i v + names i u) → all_uses (joined_with v u more) ≡ all_uses v + all_uses u → all_cuts (joined_with v u more) ≡ all_cuts v + all_cuts u → HasFewUses (joined_with v u more)
+    → ((i : ℕ) → names i (joined_with v u more) ≡ names i v + names i u) → all_uses (joined_with v u more) ≡ all_uses v + all_uses u → all_cuts (joined_with v u more) ≡ all_cuts v + all_cuts u
+    → ((r : ℕ) → times_drawn r (joined_with v u more) ≡ times_drawn r v + times_drawn r u) → all_drawn (joined_with v u more) ≡ all_drawn v + all_drawn u → HasFewUses (joined_with v u more)
     → AreTheirs k.g.history more → AreTheirs (longer v.seen u.seen) more → Kept about words (set (set views id (joined_with v u more)) other gone)
-joining about words views k id v at other u apart more there passing not_opening idle numbered used cut few theirs seen_theirs =
+joining about words views k id v at other u apart more there passing not_opening idle numbered used cut drawn many few theirs seen_theirs =
     let b : View = joined_with v u more in
     let sum = total_join views id v b at other u gone apart there in
     let before_u = before views id v b at other u gone apart there in
@@ -72,9 +73,10 @@ joining about words views k id v at other u apart more there passing not_opening
       };
       counted = record { all = omega (arith, k.counted.all, sum (λ x. owes_count x.stage), ap owes_count idle); few = omega (arith, k.counted.few, sum (λ x. has_counted x.stage), ap has_counted idle) };
       drawn = record {
-        once = λ r. omega (arith, sum (λ x. times r x.drawn), k.drawn.once r);
-        none_later = λ r l. omega (arith, sum (λ x. times r x.drawn), k.drawn.none_later r l);
-        none_zero = omega (arith, sum (λ x. times 0 x.drawn), k.drawn.none_zero);
+        once = λ r above low. omega (arith, sum (times_drawn r), k.drawn.once r above low, drawn r);
+        none_later = λ r l. omega (arith, sum (times_drawn r), k.drawn.none_later r l, drawn r);
+        none_zero = omega (arith, sum (times_drawn 0), k.drawn.none_zero, drawn 0);
+        all = omega (arith, sum all_drawn, k.drawn.all, many);
       };
       notes = each_join views id v b at other u gone apart there k.notes (λ x p. p) (record { notes_are = hv.notes_are; handed_is = omega (arith, hv.handed_is, hu.handed_is); epochs_are = omega (arith, hv.epochs_are, hu.epochs_are); drawn_is = hv.drawn_is }) (record { notes_are = tt; handed_is = omega arith; epochs_are = omega arith; drawn_is = omega arith });
       gated = record {
@@ -85,10 +87,10 @@ joining about words views k id v at other u apart more there passing not_opening
       };
       used = record {
         enough = omega (arith, k.used.enough, sum (λ x. may_cut x.stage), sum all_uses, ap may_cut idle, used);
-        few = each_join views id v b at other u gone apart there k.used.few (λ x p. p) few (omega arith, omega arith);
+        few = each_join views id v b at other u gone apart there k.used.few (λ x p. p) few (omega arith, tt);
       };
       cut = omega (arith, k.cut, sum all_cuts, cut);
-      acting = each_join views id v b at other u gone apart there k.acting (λ x p. p) (k.acting id v at) (λ _. (refl, refl));
+      acting = each_join views id v b at other u gone apart there k.acting (λ x p. p) (k.acting id v at) (λ _. (refl, refl, refl));
       table = k.table;
       writers = omega (arith, k.writers, sum (λ x. in_write x.stage), ap in_write idle);
       changes = λ n d none. k.changes n d (omega (arith, none, sum (λ x. changing n d x.doing), none_changing u.doing u.holds n d (k.held other u before_u) (free n)));

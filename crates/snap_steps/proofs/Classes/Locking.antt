@@ -14,6 +14,7 @@ use mathlib.Core.Option.{some}
 use Rattle.snap_rule.specs.Doing.{DoingOk}
 use Rattle.snap_stamp.specs.Layout.{word_at}
 use Rattle.snap_stamp.specs.declared.layout.Field.TheVariants.{Lock}
+use Rattle.snap_steps.specs.Numbers.{times_drawn}
 use Rattle.snap_steps.specs.Counting.{times}
 use Rattle.snap_steps.specs.Memory.{Row, with_field, row}
 use Rattle.snap_steps.specs.Rule.Changes.{changing, HoldsIts}
@@ -71,7 +72,7 @@ locking about words views k id v at r n low holds knows heights writing are_lock
       named = named_stays views id v w at about.passes k.named refl refl refl;
       history = history_stays views id v w at k.g.history k.history refl refl refl refl refl refl;
       counted = record { all = omega (arith, k.counted.all, total-set (λ u. owes_count u.stage) views id v w at); few = omega (arith, k.counted.few, total-set (λ u. has_counted u.stage) views id v w at) };
-      drawn = drawn_stays views id v w at k.m.next k.m.next k.drawn (omega arith) (λ x. refl);
+      drawn = drawn_stays views id v w at k.m.next k.m.next k.drawn (omega arith) refl refl;
       notes = each_stays views id v w at (KnowsHeader k.m.next k.m.epoch) k.notes (λ p. p);
       gated = gated_stays views id v w at k.m.gate k.m.left k.gated refl;
       used = used_stays views id v w at k.m.gate k.m.epoch k.used refl refl refl refl refl;
@@ -93,6 +94,6 @@ locking about words views k id v at r n low holds knows heights writing are_lock
       marked = marks_stay views id v w k.m.rows rows' at k.marked (stamps_same k.m.rows r (with_field Lock n (row k.m.rows r)) (omega arith) refl) refl;
       cut = cut_stays views id v w at k.m.epoch k.cut refl refl;
       acting = each_stays views id v w at ActsAsPass k.acting (λ p. p);
-      apart = apart_changed views id v w at k.m.next k.m.rows k.g.linked k.apart (λ u j there. omega (arith, k.drawn.none_zero, term_le (λ y. times 0 y.drawn) views j u there)) r (with_field Lock n (row k.m.rows r))
+      apart = apart_changed views id v w at k.m.next k.m.rows k.g.linked k.apart (λ u j there. omega (arith, k.drawn.none_zero, term_le (times_drawn 0) views j u there)) r (with_field Lock n (row k.m.rows r))
           (λ s pos z ne. let q = row_other k.m.rows r s (with_field Lock n (row k.m.rows r)) ne in let f = k.apart.fresh s pos z in (ap (λ (y : Row). y.lock) q ∙ f.0, ap (λ (y : Row). y.stamp) q ∙ f.1)) is_linked refl refl refl;
     }

@@ -79,7 +79,7 @@ rewriting about words views k id v w at words' rows' b away memory moves pending
       named = named_stays views id v u at about.passes k.named refl refl refl;
       history = history_stays views id v u at k.g.history k.history refl refl refl refl refl refl;
       counted = record { all = omega (arith, k.counted.all, total-set (λ u. owes_count u.stage) views id v u at); few = omega (arith, k.counted.few, total-set (λ u. has_counted u.stage) views id v u at) };
-      drawn = drawn_stays views id v u at k.m.next k.m.next k.drawn (omega arith) (λ x. refl);
+      drawn = drawn_stays views id v u at k.m.next k.m.next k.drawn (omega arith) refl refl;
       notes = each_stays views id v u at (KnowsHeader k.m.next k.m.epoch) k.notes (λ p. p);
       gated = gated_stays views id v u at k.m.gate k.m.left k.gated refl;
       used = used_stays views id v u at k.m.gate k.m.epoch k.used refl refl refl refl refl;

@@ -76,7 +76,7 @@ trying about words views k i id v w at knows_rows reached way place present note
         others = λ i none. k.history.others i (omega (arith, none, total-set (names i) views id v u at));
       };
       counted = record { all = omega (arith, k.counted.all, total-set (λ x. owes_count x.stage) views id v u at); few = omega (arith, k.counted.few, total-set (λ x. has_counted x.stage) views id v u at) };
-      drawn = drawn_stays views id v u at k.m.next k.m.next k.drawn (omega arith) (λ r. refl);
+      drawn = drawn_stays views id v u at k.m.next k.m.next k.drawn (omega arith) refl refl;
       notes = each_stays views id v u at (KnowsHeader k.m.next k.m.epoch) k.notes (λ _. notes);
       gated = gated_stays views id v u at k.m.gate k.m.left k.gated refl;
       used = used_stays views id v u at k.m.gate k.m.epoch k.used refl refl refl refl refl;

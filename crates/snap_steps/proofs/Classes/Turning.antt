@@ -98,7 +98,7 @@ turning about words views k id v at words' m' notes handed epochs stage uses pre
       named = named_stays views id v w at about.passes k.named refl refl refl;
       history = history_stays views id v w at k.g.history k.history refl refl refl refl refl refl;
       counted = record { all = omega (arith, k.counted.all, total-set (λ u. owes_count u.stage) views id v w at); few = omega (arith, k.counted.few, total-set (λ u. has_counted u.stage) views id v w at) };
-      drawn = drawn_stays views id v w at k.m.next m'.next k.drawn (omega arith) (λ r. refl);
+      drawn = drawn_stays views id v w at k.m.next m'.next k.drawn (omega arith) refl refl;
       notes = each_set views id w k.notes (header_later k.m.next m'.next k.m.epoch m'.epoch (omega arith) (omega arith)) true_notes;
       gated = gated;
       used = used;
@@ -119,7 +119,7 @@ turning about words views k id v at words' m' notes handed epochs stage uses pre
       tries = each_stays views id v w at (KnowsTry (state_of m' (record k.g { writers = total (λ u. in_write u.stage) (set views id w) }))) (tries_evolve (state_of k.m k.g) (state_of m' (record k.g { writers = total (λ u. in_write u.stage) (set views id w) })) views moves.0 k.tries) (λ p. p);
       marked = marks_stay views id v w k.m.rows m'.rows at k.marked (λ n. ap (λ (l : List Row). (row l n).stamp) rows) refl;
       cut = subst (λ e. e ≡ total all_cuts (set views id w)) (sym epoch) (cut_stays views id v w at k.m.epoch k.cut refl refl);
-      acting = each_stays views id v w at ActsAsPass k.acting (λ p z. (acts z, (p z).1));
+      acting = each_stays views id v w at ActsAsPass k.acting (λ p z. (acts z, (p z).1, (p z).2));
       heights = each_stays views id v w at (λ u. AreHeights (state_of m' (record k.g { writers = total (λ u. in_write u.stage) (set views id w) })) u.holds u.heights) (heights_evolve (state_of k.m k.g) (state_of m' (record k.g { writers = total (λ u. in_write u.stage) (set views id w) })) views (λ j u there n c. leaves_apart (state_of k.m k.g) (state_of m' (record k.g { writers = total (λ u. in_write u.stage) (set views id w) })) n (moves.2 n tt) (λ y. ap (λ (l : List Row). (row l y).height) rows)) k.heights) (λ p. p);
       debts = each_set {P = KnowsDebt s'} {Q = KnowsDebt s'} views id w (debts_known st s' views k.table moves.0 k.doing (λ j u there n c. ap (λ (l : List Row). (row l n).stamp) rows) k.debts) (λ u p. p) (debt_doing_kept st s' k.table moves.0 v.doing debt (k.doing id v at) (λ n _ c. ap (λ (l : List Row). (row l n).stamp) rows) owed.0, owed.1);
       owing = owed_after views id v w at st s' k.m.next m'.next about.rows moves.0 (omega arith) (λ room ok. silent_owes st s' (updates.changed (debts_of views) id debt) still (owed.2 room ok)) k.owing;

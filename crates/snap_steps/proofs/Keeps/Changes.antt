@@ -46,6 +46,7 @@ use Rattle.snap_steps.proofs.Totals.{one_other, one_same, total-set, term_le}
 use Rattle.snap_steps.specs.Rule.{Kept}
 use Rattle.snap_steps.specs.declared.view.View.{View}
 use Rattle.snap_steps.specs.declared.rule.About.{About}
+use Rattle.snap_steps.specs.Numbers.{times_drawn}
 use Rattle.snap_steps.specs.Counting.{times}
 use Rattle.snap_steps.proofs.Tables.{none_changing, Moves, in_times}
 use Rattle.snap_steps.proofs.EachView.{none_total, each_others}
@@ -164,7 +165,7 @@ shrinks about slots id me parent p r d raised x key low is_pass turn aims stamp_
           (each_others s.views id v at w (λ j u ne there. facts_elsewhere k.m.rows r o u.holds u.holds u.knows (k.known j u there) (others_apart s.views id v at k.m.rows r k.locked turn.held j u ne there) (λ y. omega arith))
           (ap (λ (y : Row). y.stamp) (row_same k.m.rows r o near), turn.held, facts_left k.m.rows r Stamp (x + 2) v.holds v.knows near known))
           (k.reached id v at)
-          (apart_changed s.views id v w at k.m.next k.m.rows k.g.linked k.apart (λ u j there. omega (arith, k.drawn.none_zero, term_le (λ y. times 0 y.drawn) s.views j u there)) r o
+          (apart_changed s.views id v w at k.m.next k.m.rows k.g.linked k.apart (λ u j there. omega (arith, k.drawn.none_zero, term_le (times_drawn 0) s.views j u there)) r o
           (λ y pos z ne. let q = row_other k.m.rows r y o ne in let f = k.apart.fresh y pos z in (ap (λ (i : Row). i.lock) q ∙ f.0, ap (λ (i : Row). i.stamp) q ∙ f.1)) (λ pos. in_times r k.g.linked (linked r turn.reached)) refl refl refl)
           (λ n none. let sum = total-set (λ u. lowers n u.doing) s.views id v w at in let was : lowers n v.doing ≡ 0 = ap (lowers n) whole in dite (ℕ_discrete n r) (λ e z. absurd (omega (arith, none, sum, was, one_same n r e)))
           (λ ne z. k.marked n (omega (arith, none, sum, was)) (subst (λ (y : Row). IsShrinking y.stamp) (row_other k.m.rows r n o ne) z))) (

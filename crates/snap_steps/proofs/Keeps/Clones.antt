@@ -24,6 +24,7 @@ use Rattle.snap_steps.specs.States.{link_field, state_of}
 use Rattle.snap_steps.specs.declared.view.Role.TheVariants.{Passing}
 use Rattle.snap_steps.specs.Steps.Clones.{seat_of, root_loaded, writes_counted, copied, stamp_noted, stamp_loaded, TellsCause}
 use Rattle.snap_steps.specs.Steps.Fields.{is_last}
+use Rattle.snap_steps.specs.Steps.Header.{noted}
 use Rattle.snap_steps.specs.Steps.Told.{Sat}
 use Rattle.snap_steps.specs.declared.rule.About.{About}
 use Rattle.snap_steps.specs.declared.view.Balance.{Balance}
@@ -31,10 +32,11 @@ use Rattle.snap_steps.specs.declared.view.Balance.TheVariants.{Settled, RowsOut,
 use Rattle.snap_steps.specs.declared.view.Stage.{Stage}
 use Rattle.snap_steps.specs.declared.view.Stage.TheVariants.{Idle, Writing, Closing}
 use Rattle.snap_steps.specs.declared.view.View.{View}
+use Rattle.snap_steps.specs.declared.view.WordNote.TheVariants.{Done}
 use Rattle.snap_steps.proofs.Cells.{cell_is, one_word}
 use Rattle.snap_steps.proofs.Classes.Adding.{clone_more}
 use Rattle.snap_steps.proofs.Classes.Seeing.{seeing}
-use Rattle.snap_steps.proofs.Classes.Turning.{Rule}
+use Rattle.snap_steps.proofs.Classes.Turning.{Rule, noting}
 use Rattle.snap_steps.proofs.EachView.{none_total}
 use Rattle.snap_steps.proofs.Memories.{done_is}
 use Rattle.snap_steps.proofs.Parts.Worn.{last_found, or_cases}
@@ -120,10 +122,10 @@ module _ (about : About) (slots id : ℕ) (me : Sat) where
       let seen = k.history.seen id v at in let still = (k.based id v at).1 cut in
       let idle : total (λ u. in_write u.stage) s.views ≡ 0 = k.gated.quiet (omega (arith, still.0, term_le (λ u. is_quiet u.stage) s.views id v at)) in
       let none_owe : total (λ u. owes_count u.stage) s.views ≡ 0 = none_total (λ u. owes_count u.stage) s.views (λ j u there. none_owes u.stage (omega (arith, idle, term_le (λ y. in_write y.stage) s.views j u there))) in (
-        v,
+        noted v (Done found),
         keeps,
         tt,
-        seeing about s.words s.views k 3 id v v at (k.known id v at) (k.reached id v at) (k.ways id v at) (k.places id v at) (k.present id v at) (k.notes id v at) (k.worn id v at) (k.lasting id v at) (begins_itself v.seen) seen.0 seen.1,
+        noting about s.words s.views k 3 id v (Done found) at tt,
         (refl, refl, omega (arith, is, k.counted.all, none_owe, ap length still.2), subst (Begins v.seen) still.2 seen.0),
       )
 

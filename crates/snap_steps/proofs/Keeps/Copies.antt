@@ -25,6 +25,7 @@ use Rattle.snap_stamp.specs.Layout.{word_at}
 use Rattle.snap_stamp.specs.declared.layout.Field.{Field}
 use Rattle.snap_stamp.specs.declared.layout.Field.TheVariants.{Lock, Left, Right, Key, Birth, Height, Value}
 use Rattle.snap_stamp.specs.declared.side.Side.{Side}
+use Rattle.snap_steps.specs.Numbers.{times_drawn}
 use Rattle.snap_steps.specs.Counting.{times}
 use Rattle.snap_steps.specs.Facts.{IsBorn, IsKnown, AreFacts, fact}
 use Rattle.snap_steps.specs.Memory.{Row, field, with_field, row}
@@ -111,7 +112,7 @@ links_copy about slots id me key parent d child copy low writing place older fil
     let linked_parent : parent ≢ 0 → In parent k.g.linked = λ nz. in_of k.g.linked v.reached parent (k.reached id v at) (is_live v parent nz above.live).0 in
     let live : parent ≢ 0 → IsLive st parent = λ nz. born_live st k.m.rows k.m.epoch v parent k.table refl refl refl known (k.present id v at).0 (linked_parent nz) (is_live v parent nz above.live).1 in
     let own = k.apart.own id v at copy filled.own in
-    let pos : 0 < copy = dite (ℕ_discrete copy 0) (λ z. absurd (omega (arith, own.1, ap (λ (y : ℕ). times y v.drawn) z, k.drawn.none_zero, term_le (λ y. times 0 y.drawn) s.views id v at))) (λ nz. omega arith) in
+    let pos : 0 < copy = dite (ℕ_discrete copy 0) (λ z. absurd (omega (arith, own.1, ap (λ (y : ℕ). times y v.drawn) z, k.drawn.none_zero, term_le (times_drawn 0) s.views id v at))) (λ nz. omega arith) in
     let fresh = k.apart.fresh copy pos own.0 in
     let unlocked : (j : ℕ) (u : View) → get_elem? s.views j ≡ some u → times copy u.holds ≡ 0 = λ j u there. omega (arith, term_le (λ y. times copy y.holds) s.views j u there, k.locked.count copy, ap is_taken fresh.0) in
     let ours : (h : Field) (y : ℕ) → IsKnown v.wrote copy h y → field h (row k.m.rows copy) ≡ y = λ h y. known_is k.m.rows v.own v.wrote copy h y wrote in

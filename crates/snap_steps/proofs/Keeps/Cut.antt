@@ -161,7 +161,7 @@ cuts about slots id me gate passing alone closing s k wide at small =
           others = λ i z. k.history.others i (omega (arith, z, total-set (names i) views id v w at));
         };
         counted = record { all = omega (arith, k.counted.all, total-set (λ u. owes_count u.stage) views id v w at); few = omega (arith, k.counted.few, total-set (λ u. has_counted u.stage) views id v w at) };
-        drawn = drawn_stays views id v w at k.m.next k.m.next k.drawn (omega arith) (λ x. refl);
+        drawn = drawn_stays views id v w at k.m.next k.m.next k.drawn (omega arith) refl refl;
         notes = each_set views id w k.notes (header_later k.m.next k.m.next k.m.epoch new (omega arith) (omega arith)) (let h = header_later k.m.next k.m.next k.m.epoch new (omega arith) (omega arith) v (k.notes id v at) in record { notes_are = h.notes_are; handed_is = h.handed_is; epochs_are = h.epochs_are; drawn_is = omega arith });
         gated = gated_moves views id v w at k.m.gate k.m.left k.m.gate k.m.left g (omega arith) (omega (arith, g.one)) (λ some. omega (arith, none, total-set (λ u. in_write u.stage) views id v w at))
             (each_stays views id v w at (λ u. IsAt k.m.gate u.stage) g.at (λ p. subst (IsAt k.m.gate) (sym stage) (subst (IsAt k.m.gate) closing p)));

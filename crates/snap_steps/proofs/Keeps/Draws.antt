@@ -17,7 +17,7 @@ use Rattle.snap_steps.specs.Rule.Changes.{changing, HoldsIts}
 use Rattle.snap_steps.specs.Steps.Header.{noted}
 use Rattle.snap_steps.specs.Steps.Draws.{drew, drawing_tried}
 use Rattle.snap_steps.specs.Stages.{in_write, owes_count, has_counted}
-use Rattle.snap_steps.specs.Roles.{is_live}
+use Rattle.snap_steps.specs.Roles.{is_counted, is_live}
 use Rattle.snap_steps.specs.Rule.Apart.{AreApart, IsOwn}
 use Rattle.snap_steps.specs.Rule.Drawn.{AreDrawn}
 use Rattle.snap_steps.specs.Rule.Locks.{KnowsRows}
@@ -89,13 +89,13 @@ draws about slots id me found said room passing s k wide at small =
         owing = owed_after s.views id me.0 w at (state_of k.m k.g) (state_of k.m k.g) k.m.next (found + 1) about.rows (same_evolves (state_of k.m k.g)) (omega arith) (λ _ ok. owed_itself s.views id me.0 at (state_of k.m k.g) ok) k.owing;
         marked = marks_stay s.views id me.0 w k.m.rows k.m.rows at k.marked (λ n. refl) refl;
         cut = cut_stays s.views id me.0 w at k.m.epoch k.cut refl refl;
-        acting = each_stays s.views id me.0 w at ActsAsPass k.acting (λ p. p);
+        acting = each_stays s.views id me.0 w at ActsAsPass k.acting (λ _ z. absurd (omega (arith, z, ap is_counted passing)));
         named = named_stays s.views id me.0 w at about.passes k.named refl refl refl;
         history = history_stays s.views id me.0 w at k.g.history k.history refl refl refl refl refl refl;
         counted = record { all = omega (arith, k.counted.all, total-set (λ u. owes_count u.stage) s.views id me.0 w at); few = omega (arith, k.counted.few, total-set (λ u. has_counted u.stage) s.views id me.0 w at) };
         gated = gated_stays s.views id me.0 w at k.m.gate k.m.left k.gated refl;
         used = used_stays s.views id me.0 w at k.m.gate k.m.epoch k.used refl refl refl refl refl;
-        drawn = subst (λ n. AreDrawn (n + 1) (set s.views id w)) here (drawn_more s.views id me.0 w at k.m.next k.drawn (ap (λ (n : ℕ). me.0.drawn ++ (n + 1) ∷ []) (sym here)));
+        drawn = subst (λ n. AreDrawn (n + 1) (set s.views id w)) here (drawn_more s.views id me.0 w at k.m.next k.drawn (ap (λ (n : ℕ). me.0.drawn ++ (n + 1) ∷ []) (sym here)) refl);
         notes = each_set s.views id w k.notes (header_later k.m.next (found + 1) k.m.epoch k.m.epoch (omega arith) (omega arith)) (header_later k.m.next (found + 1) k.m.epoch k.m.epoch (omega arith) (omega arith) me.0 (k.notes id me.0 at));
       },
       (refl, (λ _. refl), (λ miss. absurd (miss hit)), omega arith),

@@ -19,6 +19,7 @@ use Rattle.snap_rule.specs.Kinds.Words.{MayStoreOwn}
 use Rattle.snap_stamp.specs.Layout.{word_at}
 use Rattle.snap_stamp.specs.declared.layout.Field.{Field}
 use Rattle.snap_stamp.specs.declared.layout.Field.TheVariants.{Stamp, Lock}
+use Rattle.snap_steps.specs.Numbers.{times_drawn}
 use Rattle.snap_steps.specs.Counting.{times}
 use Rattle.snap_steps.specs.Memory.{field, row, Row, with_field}
 use Rattle.snap_steps.specs.Steps.Fields.{read, led_to, word_loaded, own_stored, stored_own, is_last}
@@ -86,7 +87,7 @@ pub stores_own : (about : About) (slots id : ℕ) (me : Sat) (r new : ℕ) (f : 
 stores_own about slots id me r new f low no_lock no_stamp mine s k wide at small =
     let v : View = me.0 in let w : View = own_stored v r f new in let rows_wide = k.memory.wide in let x : Row = with_field f new (row k.m.rows r) in let near : r < length k.m.rows = omega arith in
     let own = k.apart.own id v at r mine in
-    let pos : 0 < r = dite (ℕ_discrete r 0) (λ z. absurd (omega (arith, own.1, ap (λ (y : ℕ). times y v.drawn) z, k.drawn.none_zero, term_le (λ y. times 0 y.drawn) s.views id v at))) (λ nz. omega arith) in
+    let pos : 0 < r = dite (ℕ_discrete r 0) (λ z. absurd (omega (arith, own.1, ap (λ (y : ℕ). times y v.drawn) z, k.drawn.none_zero, term_le (times_drawn 0) s.views id v at))) (λ nz. omega arith) in
     let lock : x.lock ≡ (row k.m.rows r).lock = field_other Lock f new (row k.m.rows r) (λ e. no_lock (sym e)) in
     let free : (row k.m.rows r).lock ≡ 0 = (k.apart.fresh r pos own.0).0 in let still : x.stamp ≡ (row k.m.rows r).stamp = field_other Stamp f new (row k.m.rows r) (λ e. no_stamp (sym e)) in
     let apart : (j : ℕ) (u : View) → get_elem? s.views j ≡ some u → times r u.holds ≡ 0 = λ j u there. omega (arith, term_le (λ y. times r y.holds) s.views j u there, k.locked.count r, ap is_taken free) in
@@ -103,7 +104,7 @@ stores_own about slots id me r new f low no_lock no_stamp mine s k wide at small
         named = named_stays s.views id v w at about.passes k.named refl refl refl;
         history = history_stays s.views id v w at k.g.history k.history refl refl refl refl refl refl;
         counted = record { all = omega (arith, k.counted.all, total-set (λ u. owes_count u.stage) s.views id v w at); few = omega (arith, k.counted.few, total-set (λ u. has_counted u.stage) s.views id v w at) };
-        drawn = drawn_stays s.views id v w at k.m.next k.m.next k.drawn (omega arith) (λ y. refl);
+        drawn = drawn_stays s.views id v w at k.m.next k.m.next k.drawn (omega arith) refl refl;
         notes = each_stays s.views id v w at (KnowsHeader k.m.next k.m.epoch) k.notes (λ p. p);
         gated = gated_stays s.views id v w at k.m.gate k.m.left k.gated refl;
         used = used_stays s.views id v w at k.m.gate k.m.epoch k.used refl refl refl refl refl;

@@ -44,6 +44,7 @@ use Rattle.snap_stamp.specs.declared.layout.Field.{Field}
 use Rattle.snap_stamp.specs.declared.layout.Field.TheVariants.{Lock, Left, Right, Key, Birth, Stamp, Height, Value}
 use Rattle.snap_stamp.specs.declared.side.Side.{Side}
 use Rattle.snap_steps.specs.States.{link_field, with_word, state_of}
+use Rattle.snap_steps.specs.Numbers.{times_drawn}
 use Rattle.snap_steps.specs.Counting.{times, removed}
 use Rattle.snap_steps.specs.Memory.{Row, field, with_field, row}
 use Rattle.snap_steps.specs.Rule.Changes.{changing}
@@ -126,8 +127,8 @@ links_leaf about slots id me r key value parent f low small_key passing writing 
     let under = below st v.seen key parent d way.faces (way.placed stamp) live in
     let none : st.link parent d ≡ 0 = ap (λ (y : Field). field y (row k.m.rows parent)) (sym place.by_side) ∙ known_is k.m.rows v.holds v.knows parent f 0 known place.none in
     let own = k.apart.own id v at r leaf.own in
-    let pos : 0 < r = dite (ℕ_discrete r 0) (λ z. absurd (omega (arith, own.1, ap (λ (y : ℕ). times y v.drawn) z, k.drawn.none_zero, term_le (λ y. times 0 y.drawn) s.views id v at))) (λ nz. omega arith) in
-    let drawn_once = term_le (λ y. times r y.drawn) s.views id v at in
+    let pos : 0 < r = dite (ℕ_discrete r 0) (λ z. absurd (omega (arith, own.1, ap (λ (y : ℕ). times y v.drawn) z, k.drawn.none_zero, term_le (times_drawn 0) s.views id v at))) (λ nz. omega arith) in
+    let drawn_once = term_le (times_drawn r) s.views id v at in
     let is_next : r ≤ k.m.next = dite (native.Mathlib.Decide.dec_le r k.m.next) (λ l. l) (λ n. absurd (omega (arith, own.1, drawn_once, k.drawn.none_later r (omega arith)))) in
     let fresh = k.apart.fresh r pos own.0 in
     let none_pending : (y : Side) → k.g.pending parent y ≡ plain = λ y. k.changes parent y (none_total (λ u. changing parent y u.doing) s.views

@@ -30,6 +30,7 @@ use Rattle.snap_stamp.specs.declared.layout.Field.{Field}
 use Rattle.snap_stamp.specs.declared.layout.Field.TheVariants.{Key, Stamp, Height}
 use Rattle.snap_stamp.specs.declared.side.Side.{Side}
 use Rattle.snap_stamp.specs.declared.side.Side.TheVariants as sides
+use Rattle.snap_steps.specs.Numbers.{times_drawn}
 use Rattle.snap_steps.specs.Counting.{times}
 use Rattle.snap_steps.specs.Facts.{IsBorn, IsKnown, word_in}
 use Rattle.snap_steps.specs.Memory.{Row, row, field, with_field}
@@ -122,7 +123,7 @@ raises about slots id me parent p r key h low is_pass pair key_known right aims 
           (each_others s.views id v at w (λ j u ne there. facts_elsewhere k.m.rows r o u.holds u.holds u.knows (k.known j u there) (others_apart s.views id v at k.m.rows r k.locked pair.held j u ne there) (λ y. omega arith))
           (ap (λ (y : Row). y.height) (row_same k.m.rows r o near), pair.held, facts_left k.m.rows r Height h v.holds v.knows near known))
           (k.reached id v at)
-          (apart_changed s.views id v w at k.m.next k.m.rows k.g.linked k.apart (λ u j there. omega (arith, k.drawn.none_zero, term_le (λ y. times 0 y.drawn) s.views j u there)) r o
+          (apart_changed s.views id v w at k.m.next k.m.rows k.g.linked k.apart (λ u j there. omega (arith, k.drawn.none_zero, term_le (times_drawn 0) s.views j u there)) r o
           (λ y pos z ne. let q = row_other k.m.rows r y o ne in let f = k.apart.fresh y pos z in (ap (λ (i : Row). i.lock) q ∙ f.0, ap (λ (i : Row). i.stamp) q ∙ f.1)) (λ pos. in_times r k.g.linked (linked r pair.reached)) refl refl refl)
           (marks_stay s.views id v w k.m.rows rows' at k.marked (stamps_same k.m.rows r o near refl) refl) (
             (λ j u ne there n c. leaves n (λ q. omega (arith, c, others_apart s.views id v at k.m.rows parent k.locked pair.held_parent j u ne there, ap (λ (i : ℕ). times i u.holds) q))),

@@ -32,6 +32,7 @@ use Rattle.snap_stamp.specs.Stamps.{IsLowering, IsShrinking}
 use Rattle.snap_stamp.specs.declared.layout.Field.{Field}
 use Rattle.snap_stamp.specs.declared.layout.Field.TheVariants.{Stamp, Lock}
 use Rattle.snap_stamp.specs.declared.side.Side.{Side}
+use Rattle.snap_steps.specs.Numbers.{times_drawn}
 use Rattle.snap_steps.specs.Counting.{times}
 use Rattle.snap_steps.specs.Facts.{IsKnown}
 use Rattle.snap_steps.specs.Memory.{Row, row, field, with_field}
@@ -107,7 +108,7 @@ lowers_link about slots id me parent p r d raised middle low change middle_known
           (each_others s.views id v at w (λ j u ne there. facts_elsewhere k.m.rows r o u.holds u.holds u.knows (k.known j u there) (others_apart s.views id v at k.m.rows r k.locked held j u ne there) (λ y. omega arith))
           (ap (field f) (row_same k.m.rows r o near) ∙ field_same f middle (row k.m.rows r), held, facts_left k.m.rows r f middle v.holds v.knows near (k.known id v at)))
           (k.reached id v at)
-          (apart_changed s.views id v w at k.m.next k.m.rows k.g.linked k.apart (λ u j there. omega (arith, k.drawn.none_zero, term_le (λ y. times 0 y.drawn) s.views j u there)) r o
+          (apart_changed s.views id v w at k.m.next k.m.rows k.g.linked k.apart (λ u j there. omega (arith, k.drawn.none_zero, term_le (times_drawn 0) s.views j u there)) r o
           (λ y pos z ne. let q = row_other k.m.rows r y o ne in let h = k.apart.fresh y pos z in (ap (λ (i : Row). i.lock) q ∙ h.0, ap (λ (i : Row). i.stamp) q ∙ h.1)) (λ pos. in_times r k.g.linked (k.table.tree.rows r doing.turn.live.stands).0) refl refl refl)
           (λ n none z. k.marked n (omega (arith, none, total-set (λ u. lowers n u.doing) s.views id v w at, ap (lowers n) change)) (subst IsShrinking (stamps_same k.m.rows r o near (link_stamp d middle (row k.m.rows r)) n) z)) (
             (λ j u ne there n c. leaves_apart st s' n (moves.0.2 n (theirs j u ne there n c)) heights),
@@ -160,7 +161,7 @@ lifts_link about slots id me parent p r d raised low change s k wide at small =
           (each_others s.views id v at w (λ j u ne there. facts_elsewhere k.m.rows raised o u.holds u.holds u.knows (k.known j u there) (others_apart s.views id v at k.m.rows raised k.locked held j u ne there) (λ y. omega arith))
           (ap (field f) (row_same k.m.rows raised o near) ∙ field_same f r (row k.m.rows raised), held, facts_left k.m.rows raised f r v.holds v.knows near (k.known id v at)))
           (k.reached id v at)
-          (apart_changed s.views id v w at k.m.next k.m.rows k.g.linked k.apart (λ u j there. omega (arith, k.drawn.none_zero, term_le (λ y. times 0 y.drawn) s.views j u there)) raised o
+          (apart_changed s.views id v w at k.m.next k.m.rows k.g.linked k.apart (λ u j there. omega (arith, k.drawn.none_zero, term_le (times_drawn 0) s.views j u there)) raised o
           (λ y pos z ne. let q = row_other k.m.rows raised y o ne in let h = k.apart.fresh y pos z in (ap (λ (i : Row). i.lock) q ∙ h.0, ap (λ (i : Row). i.stamp) q ∙ h.1)) (λ pos. in_times raised k.g.linked (k.table.tree.rows raised doing.turn.raised_live.stands).0) refl refl refl)
           (λ n none z. k.marked n (omega (arith, none, total-set (λ u. lowers n u.doing) s.views id v w at, ap (lowers n) change)) (subst IsShrinking (stamps_same k.m.rows raised o near (link_stamp (other d) r (row k.m.rows raised)) n) z)) (
             (λ j u ne there n c. leaves_apart st s' n (moves.0.2 n (theirs j u ne there n c)) heights),
@@ -212,7 +213,7 @@ clears_mark about slots id me r x low change stamp_known s k wide at small =
           (each_others s.views id v at w (λ j u ne there. facts_elsewhere k.m.rows r o u.holds u.holds u.knows (k.known j u there) (others_apart s.views id v at k.m.rows r k.locked held j u ne there) (λ y. omega arith))
           (ap (λ (y : Row). y.stamp) (row_same k.m.rows r o near), held, facts_left k.m.rows r Stamp (x + 2) v.holds v.knows near known))
           (k.reached id v at)
-          (apart_changed s.views id v w at k.m.next k.m.rows k.g.linked k.apart (λ u j there. omega (arith, k.drawn.none_zero, term_le (λ y. times 0 y.drawn) s.views j u there)) r o
+          (apart_changed s.views id v w at k.m.next k.m.rows k.g.linked k.apart (λ u j there. omega (arith, k.drawn.none_zero, term_le (times_drawn 0) s.views j u there)) r o
           (λ y pos z ne. let q = row_other k.m.rows r y o ne in let h = k.apart.fresh y pos z in (ap (λ (i : Row). i.lock) q ∙ h.0, ap (λ (i : Row). i.stamp) q ∙ h.1)) (λ pos. in_times r k.g.linked (k.table.tree.rows r may.live.stands).0) refl refl refl)
           (λ n none z. dite (ℕ_discrete n r)
           (λ e. let now : (row rows' n).stamp ≡ x + 2 = ap (λ (y : ℕ). (row rows' y).stamp) e ∙ ap (λ (y : Row). y.stamp) (row_same k.m.rows r o near) in absurd (clean x marked (subst IsShrinking now z)))

@@ -5,8 +5,10 @@ use Rattle.atomic_table.proofs.Lists.{set_again}
 use Rattle.atomic_table.specs.Table.{Splits, Joins, step, keeps, Allows}
 use Rattle.snap_model.specs.History.{Begins}
 use Rattle.snap_steps.specs.Steps.Seats.{note_of, learned, took, sure, made_sure}
-use Rattle.snap_steps.specs.Roles.{is_live, gone, own_number, is_counted, is_opening}
+use Rattle.snap_steps.specs.Roles.{is_live, gone, own_number, is_counted, is_opening, silent}
 use Rattle.snap_steps.specs.Rule.{Kept}
+use Rattle.snap_model.specs.declared.call.Entry.{Entry}
+use Rattle.snap_steps.specs.declared.view.Base.{Base}
 use Rattle.snap_steps.specs.declared.view.View.{View}
 use Rattle.snap_steps.specs.declared.view.Role.TheVariants.{Passing}
 use Rattle.snap_steps.specs.declared.rule.About.{About}
@@ -14,9 +16,8 @@ use Rattle.snap_steps.proofs.Classes.Turning.{Rule}
 use Rattle.snap_steps.specs.Steps.Told.{Sat}
 use Rattle.snap_steps.proofs.Classes.Adding.{noted_more}
 use Rattle.snap_steps.specs.Histories.{longer}
-use Rattle.snap_steps.specs.Numbers.{all_uses, admitted_of, numbers_of, all_cuts}
+use Rattle.snap_steps.specs.Numbers.{all_uses, admitted_of, numbers_of, all_cuts, all_drawn, times_drawn}
 use Rattle.snap_steps.specs.Rule.Names.{names}
-use Rattle.snap_steps.specs.Seen.{IsNote}
 use Rattle.snap_steps.specs.declared.view.Stage.TheVariants.{Idle}
 use Rattle.snap_steps.proofs.Histories.{longer_begins, theirs_between, of_between, theirs_more, legal_begin, AreShorter, all_begin}
 use Rattle.snap_steps.proofs.EachView.{before}
@@ -25,22 +26,25 @@ use Rattle.snap_steps.specs.Counting.{total, times}
 use Rattle.snap_steps.specs.Rule.History.{AreTheirs}
 use Rattle.snap_steps.specs.declared.view.Admitted.{Admitted}
 use Rattle.snap_steps.proofs.Totals.{total-append, times-append}
-use Rattle.snap_steps.proofs.Parts.Names.{numbers_more, count_more}
+use Rattle.snap_steps.proofs.Parts.Names.{numbers_more}
+use Rattle.snap_steps.proofs.Parts.Uses.{few_more}
 use Rattle.snap_steps.proofs.Prefixes.{begins_itself}
 use Rattle.snap_steps.proofs.Classes.Seeing.{seeing}
 
 pub notes_kept : (about : About) (id : ℕ) (v : View) → v.role ≡ Passing → Splits (Rule about) id v v (note_of v)
 notes_kept about id v passing s k at = subst (λ (l : List View). Kept about s.words (l ++ note_of v ∷ [])) (sym (set_again s.views id v at)) (noted_more about s.words s.views k id v at (ap is_live passing))
 
-pub learns : (about : About) (id : ℕ) (v : View) (other : ℕ) (u : View) → v.role ≡ Passing → IsNote u → Joins (Rule about) id v other u (learned v u) gone
-learns about id v other u passing is s k at apart there =
+-- a note, or the seat of a clone
+pub learns : (about : About) (id : ℕ) (v : View) (other : ℕ) (u : View) (seen : List Entry) (base : Base) (outworn : List ℕ) → v.role ≡ Passing → u ≡ silent u.rows u.passes seen u.handed u.epochs u.worn base outworn → Joins (Rule about) id v other u (learned v u) gone
+learns about id v other u seen base outworn passing is s k at apart there =
     let idle : u.stage ≡ Idle = ap (λ (x : View). x.stage) is in let not_opening : is_opening u.role ≡ 0 = ap (λ (x : View). is_opening x.role) is in
     let none_named : (i : ℕ) → names i u ≡ 0 = λ i. ap (λ (x : View). names i x) is in
-    let none_used : all_uses u ≡ 0 = ap all_uses is in let none_cut : all_cuts u ≡ 0 = ap all_cuts is in
+    let none_used : all_uses u ≡ 0 = ap all_uses is in let none_cut : all_cuts u ≡ 0 = ap all_cuts is in let none_drawn : all_drawn u ≡ 0 = ap all_drawn is in
+    let none_times : (r : ℕ) → times_drawn r u ≡ 0 = λ r. ap (times_drawn r) is in
     let theirs = k.history.mine id v at in
     let before_u = before s.views id v (learned v u) at other u gone apart there in
     let long = longer_begins v.seen u.seen k.g.history (k.history.seen id v at).0 (k.history.seen other u before_u).0 in
-    joining about s.words s.views k id v at other u apart v.admitted there passing not_opening idle (λ i. omega (arith, none_named i)) (omega arith) (omega arith) (k.used.few id v at)
+    joining about s.words s.views k id v at other u apart v.admitted there passing not_opening idle (λ i. omega (arith, none_named i)) (omega arith) (omega arith) (λ r. omega (arith, none_times r)) (omega arith) (k.used.few id v at)
     theirs.1 (theirs_between v.seen (longer v.seen u.seen) k.g.history v.admitted long.1 long.0 theirs.1 theirs.2)
 
 pub admits : (about : About) (id : ℕ) (v : View) (other : ℕ) (u : View) → v.role ≡ Passing → u.role ≡ Passing → u.stage ≡ Idle → Joins (Rule about) id v other u (took v u) gone
@@ -63,7 +67,9 @@ admits about id v other u passing theirs_too idle s k at apart there =
     (λ i. omega (arith, times-append i (own_number v.role v.who) (numbers_of b.admitted), times-append i (own_number v.role v.who) (numbers_of v.admitted), times-append i (own_number u.role u.who) (numbers_of u.admitted), ap (times i) one_u, numbers_more i v.admitted (admitted_of u ∷ u.admitted)))
     (omega (arith, uses))
     cuts
-    (few_v.0, omega (arith, few_v.1, few_u.0, few_u.1, uses, count_more v.admitted (admitted_of u ∷ u.admitted), ap length one_u))
+    (λ r. omega (arith, total-append (λ (x : Admitted). times r x.drawn) v.admitted (admitted_of u ∷ u.admitted)))
+    (omega (arith, total-append (λ (x : Admitted). length x.drawn) v.admitted (admitted_of u ∷ u.admitted)))
+    (few_v.0, few_more v.admitted (admitted_of u ∷ u.admitted) few_v.1 (omega (arith, few_u.0, ap length one_u), few_u.1))
     (theirs_more k.g.history v.admitted (admitted_of u ∷ u.admitted) mine.1 at_u)
     (theirs_more (longer v.seen u.seen) v.admitted (admitted_of u ∷ u.admitted) (theirs_between v.seen (longer v.seen u.seen) k.g.history v.admitted long.1 long.0 mine.1 mine.2)
     (own.0 ∙ sym (of_between u.seen (longer v.seen u.seen) k.g.history u.who long.2 long.0 own.1), theirs_between u.seen (longer v.seen u.seen) k.g.history u.admitted long.2 long.0 hers.1 hers.2))

@@ -34,6 +34,7 @@ use Rattle.snap_stamp.specs.Stamps.{IsShrinking}
 use Rattle.snap_stamp.specs.declared.layout.Field.{Field}
 use Rattle.snap_stamp.specs.declared.layout.Field.TheVariants.{Key, Stamp, Lock}
 use Rattle.snap_stamp.specs.declared.side.Side.{Side}
+use Rattle.snap_steps.specs.Numbers.{times_drawn}
 use Rattle.snap_steps.specs.Counting.{times}
 use Rattle.snap_steps.specs.Facts.{IsKnown, heights_forgotten, word_in}
 use Rattle.snap_steps.specs.Memory.{Row, row, field, with_field}
@@ -147,7 +148,7 @@ turns about slots id me parent p r d raised key low change key_known stamps s k 
           (each_others s.views id v at w (λ j u ne there. facts_elsewhere k.m.rows parent o u.holds u.holds u.knows (k.known j u there) (others_apart s.views id v at k.m.rows parent k.locked held j u ne there) (λ y. omega arith))
           (ap (field f) (row_same k.m.rows parent o near) ∙ field_same f raised (row k.m.rows parent), held, facts_left k.m.rows parent f raised v.holds v.knows near known))
           (k.reached id v at)
-          (apart_changed s.views id v w at k.m.next k.m.rows k.g.linked k.apart (λ u j there. omega (arith, k.drawn.none_zero, term_le (λ y. times 0 y.drawn) s.views j u there)) parent o
+          (apart_changed s.views id v w at k.m.next k.m.rows k.g.linked k.apart (λ u j there. omega (arith, k.drawn.none_zero, term_le (times_drawn 0) s.views j u there)) parent o
           (λ y pos z ne. let q = row_other k.m.rows parent y o ne in let h = k.apart.fresh y pos z in (ap (λ (i : Row). i.lock) q ∙ h.0, ap (λ (i : Row). i.stamp) q ∙ h.1)) (λ pos. in_times parent k.g.linked (upper_in st parent p (λ m l. (k.table.tree.rows m l.stands).0) may.0.parent_live pos)) refl refl refl)
           (λ n none z. k.marked n (omega (arith, none, total-set (λ u. lowers n u.doing) s.views id v w at, ap (lowers n) change)) (subst IsShrinking (stamps_same k.m.rows parent o near (link_stamp p raised (row k.m.rows parent)) n) z)) (
             (λ j u ne there n c. leaves_apart st s' n (moves.0.2 n (theirs j u ne there n c)) heights),

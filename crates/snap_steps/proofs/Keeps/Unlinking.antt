@@ -35,6 +35,7 @@ use Rattle.snap_stamp.specs.declared.layout.Field.{Field}
 use Rattle.snap_stamp.specs.declared.layout.Field.TheVariants.{Key, Stamp, Left, Right, Value, Lock}
 use Rattle.snap_stamp.specs.declared.side.Side.{Side}
 use Rattle.snap_stamp.specs.declared.side.Side.TheVariants as sides
+use Rattle.snap_steps.specs.Numbers.{times_drawn}
 use Rattle.snap_steps.specs.Counting.{times}
 use Rattle.snap_steps.specs.Facts.{IsBorn, IsKnown, heights_forgotten, word_in}
 use Rattle.snap_steps.specs.Memory.{Row, row, field, with_field}
@@ -162,7 +163,7 @@ unlinks about slots id me parent p r only key x low is_pass pair routing stamp_k
           (each_others s.views id v at w (λ j u ne there. facts_elsewhere k.m.rows r o u.holds u.holds u.knows (k.known j u there) (others_apart s.views id v at k.m.rows r k.locked pair.held j u ne there) (λ y. omega arith))
           (ap (λ (y : Row). y.stamp) (row_same k.m.rows r o near), pair.held, facts_left k.m.rows r Stamp (x + 1) v.holds v.knows near known))
           (k.reached id v at)
-          (apart_changed s.views id v w at k.m.next k.m.rows k.g.linked k.apart (λ u j there. omega (arith, k.drawn.none_zero, term_le (λ y. times 0 y.drawn) s.views j u there)) r o
+          (apart_changed s.views id v w at k.m.next k.m.rows k.g.linked k.apart (λ u j there. omega (arith, k.drawn.none_zero, term_le (times_drawn 0) s.views j u there)) r o
           (λ y pos z ne. let q = row_other k.m.rows r y o ne in let f = k.apart.fresh y pos z in (ap (λ (i : Row). i.lock) q ∙ f.0, ap (λ (i : Row). i.stamp) q ∙ f.1)) (λ pos. in_times r k.g.linked (linked r pair.reached)) refl refl refl)
           (λ n none. let sum = total-set (λ u. lowers n u.doing) s.views id v w at in let was : lowers n v.doing ≡ 0 = ap (lowers n) whole in dite (ℕ_discrete n r)
           (λ e z. let now : (row rows' n).stamp ≡ x + 1 = ap (λ (y : ℕ). (row rows' y).stamp) e ∙ ap (λ (y : Row). y.stamp) (row_same k.m.rows r o near) in absurd (clean x unmarked (subst IsShrinking now z)))
@@ -221,7 +222,7 @@ splices about slots id me parent p r only low change s k wide at small =
           (each_others s.views id v at w (λ j u ne there. facts_elsewhere k.m.rows parent o u.holds u.holds u.knows (k.known j u there) (others_apart s.views id v at k.m.rows parent k.locked held j u ne there) (λ y. omega arith))
           (ap (field f) (row_same k.m.rows parent o near) ∙ field_same f only (row k.m.rows parent), held, facts_left k.m.rows parent f only v.holds v.knows near (k.known id v at)))
           (k.reached id v at)
-          (apart_changed s.views id v w at k.m.next k.m.rows k.g.linked k.apart (λ u j there. omega (arith, k.drawn.none_zero, term_le (λ y. times 0 y.drawn) s.views j u there)) parent o
+          (apart_changed s.views id v w at k.m.next k.m.rows k.g.linked k.apart (λ u j there. omega (arith, k.drawn.none_zero, term_le (times_drawn 0) s.views j u there)) parent o
           (λ y pos z ne. let q = row_other k.m.rows parent y o ne in let h = k.apart.fresh y pos z in (ap (λ (i : Row). i.lock) q ∙ h.0, ap (λ (i : Row). i.stamp) q ∙ h.1)) (λ pos. in_times parent k.g.linked (upper_in st parent p (λ m l. (k.table.tree.rows m l.stands).0) may.0.parent_live pos)) refl refl refl)
           (λ n none z. k.marked n (omega (arith, none, total-set (λ u. lowers n u.doing) s.views id v w at, ap (lowers n) change)) (subst IsShrinking (stamps_same k.m.rows parent o near (link_stamp p only (row k.m.rows parent)) n) z)) (
             (λ j u ne there n c. leaves_apart st s' n (moves.0.2 n (theirs j u ne there n c)) heights),

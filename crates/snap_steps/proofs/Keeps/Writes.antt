@@ -37,6 +37,7 @@ use Rattle.snap_rule.specs.State.{State as Table, In, Beside}
 use Rattle.snap_rule.specs.Tree.{value_word, value_of, find}
 use Rattle.snap_stamp.specs.Layout.{word_at}
 use Rattle.snap_stamp.specs.declared.layout.Field.TheVariants.{Key, Value}
+use Rattle.snap_steps.specs.Numbers.{times_drawn}
 use Rattle.snap_steps.specs.Counting.{times}
 use Rattle.snap_steps.specs.Memory.{Row, with_field, row}
 use Rattle.snap_steps.specs.Facts.{IsBorn, IsKnown, fact, forgotten}
@@ -113,7 +114,7 @@ stores about slots id me r key new low passing writing held reached key_known bo
           (locks_stay s.views id v at k.m.rows r x w k.locked refl near refl refl (sym (ap in_write writing)))
           (each_others s.views id v at w (λ j u ne there. facts_elsewhere k.m.rows r x u.holds u.holds u.knows (k.known j u there) (others_apart s.views id v at k.m.rows r k.locked held j u ne there) (λ y. omega arith))
           (ap (λ (y : Row). y.value) (row_same k.m.rows r x near), held, facts_left k.m.rows r Value new v.holds v.knows near (k.known id v at)))
-          (apart_changed s.views id v w at k.m.next k.m.rows k.g.linked k.apart (λ u j there. omega (arith, k.drawn.none_zero, term_le (λ y. times 0 y.drawn) s.views j u there)) r x
+          (apart_changed s.views id v w at k.m.next k.m.rows k.g.linked k.apart (λ u j there. omega (arith, k.drawn.none_zero, term_le (times_drawn 0) s.views j u there)) r x
           (λ y pos z ne. let q = row_other k.m.rows r y x ne in let f = k.apart.fresh y pos z in (ap (λ (o : Row). o.lock) q ∙ f.0, ap (λ (o : Row). o.stamp) q ∙ f.1)) (λ pos. in_times r k.g.linked is_linked) refl refl refl)
           (stamps_same k.m.rows r x near refl) (
             (λ j u ne there n c. leaves_apart st s' n (moves.2 n tt) (heights_same k.m.rows r x near refl)),

@@ -4,6 +4,7 @@ use lib.ListN.{get_elem?}
 use mathlib.Core.Logic.{dite}
 use mathlib.Core.Option.{some}
 use native.Mathlib.Decide.{ℕ_discrete, dec_le}
+use Rattle.snap_steps.specs.Numbers.{times_drawn}
 use Rattle.snap_steps.specs.Counting.{times, removed}
 use Rattle.snap_steps.specs.Facts.{AreFacts, forgotten_row}
 use Rattle.snap_steps.specs.Memory.{Row}
@@ -24,9 +25,9 @@ pub apart_linked : {about : About} {words : List ℕ} {views : List View} (k : K
     → AreApart k.m.next (set k.m.rows parent x) (r ∷ k.g.linked) (set views id w)
 apart_linked {views = views} k id v w at parent r x is_times mine own_is drawn_is wrote_is =
     let own = k.apart.own id v at r mine in let rows' : List Row = set k.m.rows parent x in
-    let drawn_once = term_le (λ y. times r y.drawn) views id v at in
-    let pos : 0 < r = dite (ℕ_discrete r 0) (λ z. absurd (omega (arith, own.1, ap (λ (y : ℕ). times y v.drawn) z, k.drawn.none_zero, term_le (λ y. times 0 y.drawn) views id v at))) (λ nz. omega arith) in
-    let zeros : (u : View) (j : ℕ) → get_elem? views j ≡ some u → times 0 u.drawn ≡ 0 = λ u j there. omega (arith, k.drawn.none_zero, term_le (λ y. times 0 y.drawn) views j u there) in
+    let drawn_once = term_le (times_drawn r) views id v at in
+    let pos : 0 < r = dite (ℕ_discrete r 0) (λ z. absurd (omega (arith, own.1, ap (λ (y : ℕ). times y v.drawn) z, k.drawn.none_zero, term_le (times_drawn 0) views id v at))) (λ nz. omega arith) in
+    let zeros : (u : View) (j : ℕ) → get_elem? views j ≡ some u → times 0 u.drawn ≡ 0 = λ u j there. omega (arith, k.drawn.none_zero, term_le (times_drawn 0) views j u there) in
     let not_own : (u : View) (j : ℕ) → get_elem? views j ≡ some u → times parent u.own ≡ 0 = λ u j there. none_own k.g.linked u.own u.drawn parent 0 (k.apart.own j u there) is_times (zeros u j there) in record {
       low = λ y l. dite (ℕ_discrete y r)
           (λ q. (omega arith, dite (dec_le y k.m.next) (λ near. near) (λ far. absurd (omega (arith, own.1, drawn_once, q, k.drawn.none_later r (omega arith))))))

@@ -1,5 +1,5 @@
 -- Numbers, once a view has changed.
-use Rattle.std.proofs.Common.{◌≡◌, ℕ, ◌+◌, ◌≤◌, List, ◌++◌, set, ap, ◌∙◌, subst, sym, arith, [], ◌∷◌, length}
+use Rattle.std.proofs.Common.{◌≡◌, ℕ, ◌+◌, ◌≤◌, List, ◌++◌, set, ap, ◌∙◌, subst, sym, arith, [], ◌∷◌}
 use lib.ListN.{get_elem?}
 use mathlib.Core.Option.{some}
 use Rattle.snap_steps.specs.Counting.{total, times}
@@ -28,7 +28,3 @@ module _ (views : List View) (id : ℕ) (v w : View) (at : get_elem? views id �
 pub numbers_more : (i : ℕ) (l m : List Admitted) → times i (numbers_of (l ++ m)) ≡ times i (numbers_of l) + times i (numbers_of m)
 numbers_more i [] m = omega arith
 numbers_more i (x ∷ xs) m = omega (arith, numbers_more i xs m)
-
-pub count_more : (l m : List Admitted) → length (numbers_of (l ++ m)) ≡ length (numbers_of l) + length (numbers_of m)
-count_more [] m = omega arith
-count_more (x ∷ xs) m = omega (arith, count_more xs m)

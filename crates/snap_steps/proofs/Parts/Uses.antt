@@ -1,11 +1,11 @@
 -- Uses, once a view has changed, and why no header word comes near its end.
-use Rattle.std.proofs.Common.{length, ◌≡◌, ℕ, ◌+◌, List, ◌++◌, set, ap, arith, ◌≤◌, ◌*◌, ◌^◌, ◌/◌, zero, suc, refl, ◌<◌, [], ◌∷◌, length-append}
+use Rattle.std.proofs.Common.{length, subst, sym, ◌≡◌, ℕ, ◌+◌, List, ◌++◌, set, ap, arith, ◌≤◌, ◌*◌, ◌^◌, ◌/◌, zero, suc, refl, ◌<◌, [], ◌∷◌, length-append}
 use lib.ListN.{get_elem?}
 use mathlib.Core.Logic.{dite}
 use mathlib.Core.Option.{some}
 use native.Mathlib.Decide.{ℕ_discrete, dec_le}
 use Rattle.snap_steps.specs.Counting.{total, times, one_if}
-use Rattle.snap_steps.specs.Rule.Uses.{AreUsed, HasFewUses}
+use Rattle.snap_steps.specs.Rule.Uses.{AreFew, AreUsed, HasFewUses}
 use Rattle.snap_steps.specs.declared.view.Admitted.{Admitted}
 use Rattle.snap_steps.specs.Stages.{may_cut}
 use Rattle.snap_steps.specs.Roles.{own_number}
@@ -23,7 +23,7 @@ module _ (views : List View) (id : ℕ) (v w : View) (at : get_elem? views id �
       let sum : all_uses w ≡ all_uses v = λ k. uses k + total (λ (a : Admitted). a.uses) (admitted k) in
       record {
         enough = omega (arith, h.enough, ap may_cut stage, sum, total-set (λ u. may_cut u.stage) views id v w at, total-set all_uses views id v w at);
-        few = each_stays views id v w at HasFewUses h.few (λ p. let own : length (own_number w.role w.who) ≡ length (own_number v.role v.who) = λ k. length (own_number (role k) (who k)) in let theirs : length (numbers_of w.admitted) ≡ length (numbers_of v.admitted) = ap (λ (l : List Admitted). length (numbers_of l)) admitted in let sums : total (λ (a : Admitted). a.uses) w.admitted ≡ total (λ (a : Admitted). a.uses) v.admitted = ap (total (λ (a : Admitted). a.uses)) admitted in (omega (arith, p.0), omega (arith, p.1)));
+        few = each_stays views id v w at HasFewUses h.few (λ p. let own : length (own_number w.role w.who) ≡ length (own_number v.role v.who) = λ k. length (own_number (role k) (who k)) in (omega (arith, p.0), subst AreFew (sym admitted) p.1));
       }
 
   -- a step on the stage and the uses of a pass
@@ -34,7 +34,7 @@ module _ (views : List View) (id : ℕ) (v w : View) (at : get_elem? views id �
       let more : total (λ (a : Admitted). a.uses) w.admitted ≡ total (λ (a : Admitted). a.uses) v.admitted = ap (total (λ (a : Admitted). a.uses)) admitted in
       record {
         enough = omega (arith, h.enough, total-set (λ u. may_cut u.stage) views id v w at, total-set all_uses views id v w at);
-        few = each_stays views id v w at HasFewUses h.few (λ p. let theirs : length (numbers_of w.admitted) ≡ length (numbers_of v.admitted) = ap (λ (l : List Admitted). length (numbers_of l)) admitted in (few, omega (arith, p.1)));
+        few = each_stays views id v w at HasFewUses h.few (λ p. (few, subst AreFew (sym admitted) p.1));
       }
 
   pub cut_stays : (epoch : ℕ) → epoch ≡ total all_cuts views → w.cuts ≡ v.cuts → w.admitted ≡ v.admitted → epoch ≡ total all_cuts (set views id w)
@@ -73,9 +73,17 @@ all_below passes [] h = omega arith
 all_below passes (x ∷ xs) h =
     omega (arith, all_below passes xs (λ i l. omega (arith, h i l)), below-add (λ i. names i x) (λ i. total (names i) xs) passes, numbered_below passes (numbers x) (λ i l. omega (arith, h i l)))
 
+theirs_le : (l : List Admitted) → AreFew l → total (λ (a : Admitted). a.uses) l ≤ length (numbers_of l) * 2 ^ 48
+theirs_le [] h = omega arith
+theirs_le (a ∷ more) h = omega (arith, h.0, theirs_le more h.1)
+
+pub few_more : (l m : List Admitted) → AreFew l → AreFew m → AreFew (l ++ m)
+few_more [] m h k = k
+few_more (a ∷ more) m h k = (h.0, few_more more m h.1 k)
+
 uses_le : (views : List View) → Each HasFewUses views → total all_uses views ≤ total (λ u. length (numbers u)) views * 2 ^ 48
 uses_le [] h = omega arith
-uses_le (x ∷ xs) h = omega (arith, h 0 x refl, uses_le xs (λ j. h (suc j)), length-append (own_number x.role x.who) (numbers_of x.admitted))
+uses_le (x ∷ xs) h = omega (arith, (h 0 x refl).0, theirs_le x.admitted (h 0 x refl).1, uses_le xs (λ j. h (suc j)), length-append (own_number x.role x.who) (numbers_of x.admitted))
 
 -- the gate never comes near the end of a word
 pub gate_small : (passes gate epoch : ℕ) (views : List View) → passes ≤ 64 → AreNamed passes views → AreUsed gate epoch views → gate < 2 ^ 60

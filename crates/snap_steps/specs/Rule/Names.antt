@@ -19,6 +19,6 @@ pub record AreNamed (passes : ℕ) (views : List View) : Type 0 where
   pub one_opener : total (λ v. is_opening v.role) views ≤ 1
   pub unissued : Each (λ v. v.role ≡ Opening → (i : ℕ) → v.who ≤ i → total (names i) views ≡ 0) views
 
--- who is no pass is idle and has cut nothing
+-- who is no pass is idle, has cut nothing and drawn nothing
 abbrev pub ActsAsPass : View → Type 0
-ActsAsPass v = is_counted v.role ≡ 0 → (v.stage ≡ Idle) × (v.cuts ≡ [])
+ActsAsPass v = is_counted v.role ≡ 0 → (v.stage ≡ Idle) × (v.cuts ≡ []) × (v.drawn ≡ [])

@@ -11,10 +11,12 @@ use Rattle.snap_steps.specs.Clones.{image_of, TellsWord}
 use Rattle.snap_steps.specs.Memory.{done_at}
 use Rattle.snap_steps.specs.Roles.{silent}
 use Rattle.snap_steps.specs.Steps.Fields.{is_last}
+use Rattle.snap_steps.specs.Steps.Header.{noted}
 use Rattle.snap_steps.specs.Steps.Told.{Sat, Has}
 use Rattle.snap_steps.specs.declared.view.Balance.{Balance}
 use Rattle.snap_steps.specs.declared.view.Balance.TheVariants.{StampOut}
 use Rattle.snap_steps.specs.declared.view.View.{View}
+use Rattle.snap_steps.specs.declared.view.WordNote.TheVariants.{Done}
 
 -- the seat of the clone that a pass has cut, or that another seat reads
 abbrev pub seat_of : View → View
@@ -31,9 +33,9 @@ pub record IsSeatOfClone (me : Sat) (top : ℕ) : Type 0 where
 abbrev pub root_loaded : Step (Unit {0}) → Sat → ℕ → Sat → Type 0
 root_loaded st m r n = Has m n m.0 × (r ≡ root (image_of m.0)) × (r ≤ m.0.rows)
 
--- how many writes were counted: those of the history of the clone that was cut, which goes on from what the pass has seen
+-- how many writes were counted, of which a note is left: those of the history of the clone that was cut, which goes on from what the pass has seen
 abbrev pub writes_counted : Step (Unit {0}) → Sat → ℕ → Sat → Type 0
-writes_counted st m r n = (st.word ≡ done_at) × Has m n m.0 × (r ≡ length m.0.base.history) × Begins m.0.seen m.0.base.history
+writes_counted st m r n = (st.word ≡ done_at) × Has m n (noted m.0 (Done r)) × (r ≡ length m.0.base.history) × Begins m.0.seen m.0.base.history
 
 -- a word of a row of the clone
 abbrev pub copied : Step (Unit {0}) → Sat → ℕ → Sat → Type 0

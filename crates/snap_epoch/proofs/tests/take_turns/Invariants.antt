@@ -1,7 +1,0 @@
-use Rattle.std.proofs.Common.{◌*◌}
-use Rattle.snap_epoch.specs.Ready.{IsReady}
-use Rattle.snap_epoch.proofs.tests.take_turns.Given as goal
-
--- the pass is ready again, with two uses a turn
-abbrev pub invariant-loop-turn : goal.invariant-loop-turn
-invariant-loop-turn g l = IsReady l.rows l.fn.who (2 * l.turn) l.pass
