@@ -8,7 +8,7 @@ use Rattle.snap_rule.specs.State.{In}
 use Rattle.snap_search.specs.Walk.{SeesMore}
 use Rattle.snap_search.specs.Work.{worked, Works}
 use Rattle.snap_search.proofs.Walking.{times-append}
-use Rattle.snap_search.proofs.Working.{works_on, word_works, epoch_works, epoch_now, notes_on, no_notes}
+use Rattle.snap_search.proofs.Working.{grows_on, grows_same, works_on, word_works, epoch_works, epoch_now, notes_on, no_notes}
 use Rattle.snap_stamp.specs.declared.layout.Field.{Field}
 use Rattle.snap_stamp.specs.declared.layout.Field.TheVariants.{Key, Birth, Height, Left, Right, Value}
 use Rattle.snap_stamp.specs.declared.side.Side.{Side}
@@ -163,11 +163,12 @@ born_works old new r b e = record {
   kept = λ n. omega (arith, ap (λ (k : Known). times n k.view.reached) e, times-append n old.view.reached (led_to old.view r Birth b));
   lasting = λ n g y h. subst (λ (k : Known). IsKnown k.view.lasting n g y) (sym e) (inr h);
   present = λ y h. subst (λ (k : Known). Among y k.view.present) (sym e) h;
+  refused = grows_same old.view.refused new.view.refused (ap (λ (k : Known). k.view.refused) e);
 }
 
 -- what a step keeps, where the pass changes in nothing else
 stays_of : (old new : Known) (key : Option ℕ) → new ≡ stayed old new.view → Keeps old.view new.view → Stays old new key NoWord
-stays_of old new key is k = record { is = is; copies = λ z. k.copies; knows = λ q f x ne h. k.knows q f x h; reached = k.reached; present = k.present; lasting = k.lasting }
+stays_of old new key is k = record { is = is; copies = λ z. k.copies; knows = λ q f x ne h. k.knows q f x h; reached = k.reached; present = k.present; lasting = k.lasting; refused = k.refused }
 
 stays_by : (old new : Known) (key : Option ℕ) (w : View) → Becomes old new w → known_as old w ≡ stayed old w → Keeps old.view w → Stays old new key NoWord
 stays_by old new key w e same k = stays_of old new key (e ∙ same ∙ ap (λ (x : Known). stayed old x.view) (sym e)) (kept_by old new w e k)
@@ -180,6 +181,7 @@ stays_on a b c key changed x y = record {
   reached = λ r. omega (arith, x.reached r, y.reached r);
   present = λ e h. y.present e (x.present e h);
   lasting = λ r f n h. y.lasting r f n (x.lasting r f n h);
+  refused = grows_on a.view.refused b.view.refused c.view.refused x.refused y.refused;
 }
 
 pub looks : (rows : ℕ) (old a b new : Known) (key : Option ℕ) (parent : ℕ) (d : Side) (child epoch birth : ℕ) → IsWriting old.view → ((c : ℕ) × (c ≢ 0) × IsCopyPlace old.view key parent d c) → Finds rows old a parent d child → Becomes a b (epoch_noted a.view epoch) → Becomes b new (born b.view child birth) → ((e : ℕ) → Among e b.view.present → birth ≤ e) → Looks rows old new key parent d child epoch birth
@@ -231,6 +233,7 @@ lacks rows old mid new key parent d child epoch birth l less full =
       kept = λ r. omega (arith, ap (λ (k : Known). times r k.view.reached) e);
       lasting = λ n f x h. subst (λ (k : Known). IsKnown k.view.lasting n f x) (sym e) h;
       present = λ x h. subst (λ (k : Known). Among x k.view.present) (sym e) h;
+      refused = grows_same mid.view.refused new.view.refused (ap (λ (k : Known). k.view.refused) e);
     } in record {
       child = child;
       older = record { birth = birth; is_birth = after.lasting child Birth birth l.known; epoch = epoch; now = after.present epoch l.now; older = less };
@@ -329,13 +332,14 @@ stays_copied old new key parent d copy e = record {
   reached = λ r. omega (arith, ap (λ (k : Known). times r k.view.reached) e);
   present = λ x h. subst (λ (k : Known). Among x k.view.present) (sym e) h;
   lasting = λ q g y h. subst (λ (k : Known). IsKnown k.view.lasting q g y) (sym e) h;
+  refused = grows_same old.view.refused new.view.refused (ap (λ (k : Known). k.view.refused) e);
 }
 
 -- the child is of this epoch
 pub owns_own : (rows : ℕ) (old new : Known) (key : Option ℕ) (parent : ℕ) (d : Side) (child epoch birth : ℕ) → Looks rows old new key parent d child epoch birth → epoch ≤ birth → OwnsAt rows old new key parent d child
 owns_own rows old new key parent d child epoch birth l from = let s = l.stays in record {
   owns = inl (is_own rows old new key parent d child epoch birth l from);
-  stays = record { is = s.is; copies = s.copies; knows = λ q f x ne h. s.knows q f x (λ z. z) h; reached = s.reached; present = s.present; lasting = s.lasting };
+  stays = record { is = s.is; copies = s.copies; knows = λ q f x ne h. s.knows q f x (λ z. z) h; reached = s.reached; present = s.present; lasting = s.lasting; refused = s.refused };
   low = l.low;
   is_row = l.some_row;
   reached = l.reached;

@@ -1,8 +1,9 @@
 -- What a pass keeps of what it knew, over loads and stores in its own rows.
-use Rattle.std.proofs.Common.{Option, Some, None, ⊎_elim, ◌≡◌, ◌⊎◌, inl, inr, ℕ, Bool, true, false, cond, ◌||◌, ap, nat_lt, List, ◌∷◌, refl, sym, ◌∙◌, subst, arith}
+use Rattle.std.proofs.Common.{Option, Some, None, ⊎_elim, ◌≡◌, ◌⊎◌, inl, inr, ℕ, Bool, true, false, cond, ◌||◌, ap, nat_lt, List, [], ◌∷◌, ◌++◌, refl, sym, ◌∙◌, subst, arith}
 use Rattle.snap_copy.specs.Filling.{Keeps}
 use Rattle.snap_search.proofs.Walking.{times-append}
-use Rattle.snap_search.proofs.Working.{with_more}
+use Rattle.snap_search.proofs.Working.{with_more, grows_same, grows_on}
+use Rattle.snap_search.specs.Work.{Grows}
 use Rattle.snap_stamp.specs.declared.layout.Field.{Field}
 use Rattle.snap_stamp.specs.declared.layout.Field.TheVariants.{Birth, Stamp}
 use Rattle.snap_stamp.specs.declared.side.Side.{Side}
@@ -34,6 +35,7 @@ keeps_on u v w a b = record {
   present = λ e h. b.present e (a.present e h);
   lasting = λ r f x h. b.lasting r f x (a.lasting r f x h);
   worn = λ h. b.worn (a.worn h);
+  refused = grows_on u.refused v.refused w.refused a.refused b.refused;
 }
 
 more_known : (v : View) (r : ℕ) (f : Field) (x q : ℕ) (g : Field) (y : ℕ) → IsKnown v.knows q g y → IsKnown (read v r f x).knows q g y
@@ -43,23 +45,30 @@ more_known v r f x q g y h = go (nat_lt 0 (times r v.holds))
     go true = inr h
     go false = h
 
+read_grows : (v : View) (r : ℕ) (f : Field) (x : ℕ) → Grows v.refused (read v r f x).refused
+read_grows v r f x = go (is_last f x)
+  where
+    go : (b : Bool) → Grows v.refused (cond b (v.refused ++ fact r f x ∷ []) v.refused)
+    go true = (fact r f x ∷ [], refl)
+    go false = grows_same v.refused v.refused refl
+
 pub read_keeps : (v : View) (r : ℕ) (f : Field) (x : ℕ) → Keeps v (read v r f x)
-read_keeps v r f x = record { stage = refl; holds = refl; heights = refl; place = refl; copies = refl; knows = more_known v r f x; reached = λ n. omega (arith, times-append n v.reached (led_to v r f x)); present = λ e h. h; lasting = λ q g y h. h; worn = λ h. ap (λ (b : Bool). b || is_last f x) h }
+read_keeps v r f x = record { stage = refl; holds = refl; heights = refl; place = refl; copies = refl; knows = more_known v r f x; reached = λ n. omega (arith, times-append n v.reached (led_to v r f x)); present = λ e h. h; lasting = λ q g y h. h; worn = λ h. ap (λ (b : Bool). b || is_last f x) h; refused = read_grows v r f x }
 
 pub learnt_keeps : (v : View) (r : ℕ) (f : Field) (x : ℕ) → Keeps v (learnt v r f x)
-learnt_keeps v r f x = record { stage = refl; holds = refl; heights = refl; place = refl; copies = refl; knows = more_known v r f x; reached = λ n. omega (arith, times-append n v.reached (led_to v r f x)); present = λ e h. h; lasting = λ q g y h. inr h; worn = λ h. ap (λ (b : Bool). b || is_last f x) h }
+learnt_keeps v r f x = record { stage = refl; holds = refl; heights = refl; place = refl; copies = refl; knows = more_known v r f x; reached = λ n. omega (arith, times-append n v.reached (led_to v r f x)); present = λ e h. h; lasting = λ q g y h. inr h; worn = λ h. ap (λ (b : Bool). b || is_last f x) h; refused = read_grows v r f x }
 
 pub epoch_keeps : (v : View) (e : ℕ) → Keeps v (epoch_noted v e)
-epoch_keeps v e = record { stage = refl; holds = refl; heights = refl; place = refl; copies = refl; knows = λ q g y h. h; reached = λ n. omega arith; present = λ x h. with_more v.stage e x v.present h; lasting = λ q g y h. h; worn = λ h. h }
+epoch_keeps v e = record { stage = refl; holds = refl; heights = refl; place = refl; copies = refl; knows = λ q g y h. h; reached = λ n. omega arith; present = λ x h. with_more v.stage e x v.present h; lasting = λ q g y h. h; worn = λ h. h; refused = grows_same v.refused v.refused refl }
 
 pub stored_keeps : (v : View) (r : ℕ) (f : Field) (x : ℕ) → Keeps v (own_stored v r f x)
-stored_keeps v r f x = record { stage = refl; holds = refl; heights = refl; place = refl; copies = refl; knows = λ q g y h. h; reached = λ n. omega arith; present = λ e h. h; lasting = λ q g y h. h; worn = λ h. h }
+stored_keeps v r f x = record { stage = refl; holds = refl; heights = refl; place = refl; copies = refl; knows = λ q g y h. h; reached = λ n. omega arith; present = λ e h. h; lasting = λ q g y h. h; worn = λ h. h; refused = grows_same v.refused v.refused refl }
 
 pub drew_keeps : (v : View) (l : List WordNote) (r : ℕ) → Keeps v (drew (all_noted v l) r)
-drew_keeps v l r = record { stage = refl; holds = refl; heights = refl; place = refl; copies = refl; knows = λ q g y h. h; reached = λ n. omega arith; present = λ e h. h; lasting = λ q g y h. h; worn = λ h. h }
+drew_keeps v l r = record { stage = refl; holds = refl; heights = refl; place = refl; copies = refl; knows = λ q g y h. h; reached = λ n. omega arith; present = λ e h. h; lasting = λ q g y h. h; worn = λ h. h; refused = grows_same v.refused v.refused refl }
 
 pub noted_keeps : (v : View) (l : List WordNote) → Keeps v (all_noted v l)
-noted_keeps v l = record { stage = refl; holds = refl; heights = refl; place = refl; copies = refl; knows = λ q g y h. h; reached = λ n. omega arith; present = λ e h. h; lasting = λ q g y h. h; worn = λ h. h }
+noted_keeps v l = record { stage = refl; holds = refl; heights = refl; place = refl; copies = refl; knows = λ q g y h. h; reached = λ n. omega arith; present = λ e h. h; lasting = λ q g y h. h; worn = λ h. h; refused = grows_same v.refused v.refused refl }
 
 pub older_still : (v w : View) (r : ℕ) → Keeps v w → IsOlder v r → IsOlder w r
 older_still v w r k h = record { birth = h.birth; is_birth = k.lasting r Birth h.birth h.is_birth; epoch = h.epoch; now = k.present h.epoch h.now; older = h.older }

@@ -1,5 +1,5 @@
 -- What a repair gets of a copy, or of a child that needs none.
-use Rattle.std.proofs.Common.{◌≡◌, ◌⊎◌, ◌∙◌, ◌≤◌, inl, inr, None, Bool, true, false, ℕ, List, [], ◌∷◌, append-nil, refl, sym, ap, subst, arith}
+use Rattle.std.proofs.Common.{⊎_elim, ◌≡◌, ◌⊎◌, ◌∙◌, ◌≤◌, inl, inr, None, Bool, true, false, ℕ, List, [], ◌∷◌, append-nil, refl, sym, ap, subst, arith}
 use mathlib.Core.Logic.{dite}
 use native.Mathlib.Decide.{ℕ_discrete}
 use Rattle.snap_copy.specs.Lowering.{LacksRows, OwnsLower}
@@ -9,6 +9,7 @@ use Rattle.snap_copy.specs.Owning.{IsCopiedAt, IsOwn, LacksAt, OwnsAt, Stays, st
 use Rattle.snap_rule.specs.State.{In}
 use Rattle.snap_search.specs.Work.{NotesMore}
 use Rattle.snap_stamp.specs.declared.layout.Field.{Field}
+use Rattle.snap_stamp.specs.Sides.{other}
 use Rattle.snap_stamp.specs.declared.side.Side.{Side}
 use Rattle.snap_steps.proofs.Totals.{one_other, removed_other, removed_same}
 use Rattle.snap_steps.specs.Counting.{Among, removed, times}
@@ -16,7 +17,7 @@ use Rattle.snap_steps.specs.Facts.{IsBorn, IsKnown}
 use Rattle.snap_steps.specs.Seen.{Known}
 use Rattle.snap_steps.specs.States.{link_field}
 use Rattle.snap_steps.specs.Steps.Header.{all_handed, handed_after}
-use Rattle.snap_steps.specs.Steps.Settling.{IsBelow}
+use Rattle.snap_steps.specs.Steps.Settling.{HasHeight, IsBelow}
 use Rattle.snap_steps.specs.Steps.Tilts.{IsBelowTilt, IsTilt}
 use Rattle.snap_steps.specs.declared.view.View.{View}
 use Rattle.snap_steps.specs.declared.view.WordNote.{WordNote}
@@ -79,6 +80,7 @@ stays_mends full old new changed more s links noted found = record {
   reached = s.reached;
   present = s.present;
   lasting = s.lasting;
+  refused = s.refused;
 }
 
 stays_firm : (old new : Known) (changed : ℕ → Field → Type 0) → Stays old new None changed → Mends old new → Firm old new changed
@@ -113,10 +115,28 @@ owns_lower rows old new parent d child o = record {
     leads (inl h) = h.child_is
     leads (inr c) = c.child_is
 
-pub lacks_rows : (rows found : ℕ) (old new : Known) (parent : ℕ) (d : Side) → old.view.rows ≡ rows → LacksAt rows old new None parent d found → LacksRows rows old new found
-lacks_rows rows found old new parent d size l = let w = l.lacks.works in record {
+-- the row leans still
+tilt_stays : (old new : Known) (upper parent : ℕ) (d : Side) → Stays old new None NoWord → IsTilt old.view upper parent d → IsTilt new.view upper parent d
+tilt_stays old new upper parent d s t = let l = t.leans in record {
+  higher = t.higher;
+  leans = record { held = subst (λ (k : Known). Among upper k.view.holds) (sym s.is) l.held; high = l.high; low = l.low; is_high = height t.higher l.high l.is_high; is_low = height (other t.higher) l.low l.is_low; tilts = l.tilts };
+  at = ⊎_elim (λ z. inl z) (λ z. inr (knows upper (link_field t.higher) parent z.0, z.1)) t.at;
+  child = t.child;
+  some_child = t.some_child;
+  leads = knows parent (link_field d) t.child t.leads;
+}
+  where
+    knows : (q : ℕ) (f : Field) (x : ℕ) → IsKnown old.view.knows q f x → IsKnown new.view.knows q f x
+    knows q f x h = s.knows q f x (λ z. z) h
+
+    height : (e : Side) (x : ℕ) → HasHeight old.view upper e x → HasHeight new.view upper e x
+    height e x h = ⊎_elim (λ z. inl (knows upper (link_field e) 0 z.0, z.1)) (λ z. inr (subst (λ (k : Known). IsBelow k.view.heights upper e x) (sym s.is) z)) h
+
+pub lacks_rows : (rows found : ℕ) (old new : Known) (parent upper : ℕ) (d : Side) → old.view.rows ≡ rows → IsTilt old.view upper parent d → LacksAt rows old new None parent d found → LacksRows rows old new parent d found
+lacks_rows rows found old new parent upper d size tilt l = let w = l.lacks.works in record {
   mends = stays_mends true old new NoWord l.lacks.more l.stays (none_linked old.view new.view (ap (λ (k : Known). k.view.drawn) w.is) (ap (λ (k : Known). k.view.own) w.is)) w.noted (subst (λ (n : ℕ). In (Next n) l.lacks.more) (sym size) l.lacks.full);
   holds = ap (λ (k : Known). k.view.holds) l.stays.is;
+  wants = record { child = l.lacks.child; child_is = l.lacks.child_is; older = l.lacks.older; upper = upper; tilt = tilt_stays old new upper parent d l.stays tilt };
   all = l.all;
   full = omega (arith, noted_handed old.view.handed rows l.lacks.more l.lacks.full, w.noted.handed);
 }

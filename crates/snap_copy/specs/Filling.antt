@@ -1,7 +1,7 @@
 -- The work by which a row of the pass becomes a copy of a shared child.
 use Rattle.std.specs.Prelude.{◌≡◌, ◌≢◌, ◌≤◌, ℕ, true, false}
 use Rattle.snap_search.specs.Walk.{KeepsReached}
-use Rattle.snap_search.specs.Work.{KeepsLasting, KeepsPresent}
+use Rattle.snap_search.specs.Work.{Grows, KeepsLasting, KeepsPresent}
 use Rattle.snap_stamp.specs.declared.layout.Field.{Field}
 use Rattle.snap_stamp.specs.declared.side.Side.{Side}
 use Rattle.snap_steps.specs.Counting.{Among}
@@ -24,6 +24,7 @@ pub record Keeps (v w : View) : Type 0 where
   pub present : KeepsPresent v w
   pub lasting : KeepsLasting v w
   pub worn : v.worn ≡ true → w.worn ≡ true
+  pub refused : Grows v.refused w.refused
 
 -- the pass has loaded the link below the held row, and reached the child to which it leads
 pub record Finds (rows : ℕ) (old new : Known) (parent : ℕ) (side : Side) (child : ℕ) : Type 0 where

@@ -7,6 +7,9 @@ use Rattle.snap_steps.specs.Counting.{Among}
 use Rattle.snap_steps.specs.Facts.{IsKnown}
 use Rattle.snap_steps.specs.Seen.{Known}
 use Rattle.snap_steps.specs.States.{link_field}
+use Rattle.snap_steps.specs.Steps.Copies.{IsOlder}
+use Rattle.snap_steps.specs.Steps.Tilts.{IsTilt}
+use Rattle.snap_steps.specs.declared.view.View.{View}
 
 -- the child is of this epoch: the pass knows all that it knew, but where the link leads
 pub record OwnsLower (rows : ℕ) (old new : Known) (parent : ℕ) (side : Side) (child : ℕ) : Type 0 where
@@ -19,9 +22,18 @@ pub record OwnsLower (rows : ℕ) (old new : Known) (parent : ℕ) (side : Side)
   -- no row was drawn, or one for a child of an earlier epoch, and it was linked
   pub owns : IsOwn old new parent side child ⊎ IsCopiedAt old new None parent side child
 
--- every row was handed out, as a load of this call found, and nothing has changed
-pub record LacksRows (rows : ℕ) (old new : Known) (found : ℕ) : Type 0 where
+-- a rotation wants the child there as one of this epoch, and it is of an earlier one
+pub record WantsCopy (v : View) (parent : ℕ) (side : Side) : Type 0 where
+  pub child : ℕ
+  pub child_is : IsKnown v.knows parent (link_field side) child
+  pub older : IsOlder v child
+  pub upper : ℕ
+  pub tilt : IsTilt v upper parent side
+
+-- the child is of an earlier epoch, and this call found that every row was handed out. Nothing has changed
+pub record LacksRows (rows : ℕ) (old new : Known) (parent : ℕ) (side : Side) (found : ℕ) : Type 0 where
   pub mends : MendsTo true old new
   pub holds : new.view.holds ≡ old.view.holds
+  pub wants : WantsCopy new.view parent side
   pub all : found ≡ rows
   pub full : rows ≤ new.view.handed

@@ -2,7 +2,7 @@
 use Rattle.std.specs.Prelude.{◌≡◌, ◌≤◌, ◌<◌, ℕ, List, ◌++◌, Bool, true, false}
 use Rattle.snap_rule.specs.State.{In}
 use Rattle.snap_search.specs.Walk.{KeepsReached}
-use Rattle.snap_search.specs.Work.{KeepsPresent, KeepsLasting, NotesMore}
+use Rattle.snap_search.specs.Work.{Grows, KeepsPresent, KeepsLasting, NotesMore}
 use Rattle.snap_stamp.specs.declared.layout.Field.{Field}
 use Rattle.snap_steps.specs.Counting.{Among, times}
 use Rattle.snap_steps.specs.Facts.{IsKnown}
@@ -29,7 +29,7 @@ abbrev pub TellsFull : Bool → ℕ → List WordNote → Type 0
 TellsFull true rows l = In (Next rows) l
 TellsFull false rows l = In (Next rows) l → ⊥
 
--- the pass has gone on with its repairs: it has made no entry, and is in the change that it was in. `full`: whether a load found that every row was handed out
+-- the pass has gone on with its repairs: it has made no entry, is in the change that it was in, and has forgotten no word for which it was refused a row. `full`: whether a load found that every row was handed out
 pub record MendsTo (full : Bool) (old new : Known) : Type 0 where
   pub is : new ≡ mended old new.view
   pub whole : new.view.doing ≡ old.view.doing
@@ -40,6 +40,7 @@ pub record MendsTo (full : Bool) (old new : Known) : Type 0 where
   pub reached : KeepsReached old.view new.view
   pub present : KeepsPresent old.view new.view
   pub lasting : KeepsLasting old.view new.view
+  pub refused : Grows old.view.refused new.view.refused
 
 -- and each draw found a row left
 abbrev pub Mends : Known → Known → Type 0

@@ -3,7 +3,7 @@ use Rattle.std.specs.Prelude.{◌≡◌, ◌≢◌, ◌⊎◌, ◌≤◌, ℕ, L
 use Rattle.snap_copy.specs.Mending.{NoWord}
 use Rattle.snap_rule.specs.State.{In}
 use Rattle.snap_search.specs.Walk.{KeepsReached, SeesMore}
-use Rattle.snap_search.specs.Work.{worked, Works, NotesMore, KeepsPresent, KeepsLasting}
+use Rattle.snap_search.specs.Work.{worked, Works, Grows, NotesMore, KeepsPresent, KeepsLasting}
 use Rattle.snap_stamp.specs.declared.layout.Field.{Field}
 use Rattle.snap_stamp.specs.declared.layout.Field.TheVariants.{Birth}
 use Rattle.snap_stamp.specs.declared.side.Side.{Side}
@@ -79,6 +79,7 @@ pub record Stays (old new : Known) (key : Option ℕ) (changed : ℕ → Field �
   pub reached : KeepsReached old.view new.view
   pub present : KeepsPresent old.view new.view
   pub lasting : KeepsLasting old.view new.view
+  pub refused : Grows old.view.refused new.view.refused
 
 -- the row is the child below the held one and of this epoch, by either place of a copy
 pub record OwnsAt (rows : ℕ) (old new : Known) (key : Option ℕ) (parent : ℕ) (side : Side) (row : ℕ) : Type 0 where

@@ -3,7 +3,7 @@
 
 ghost use Rattle.std.specs.Prelude.{◌≡◌, ◌≢◌, ◌<◌, ◌≤◌, ℕ, false, MatchResult, None, Some};
 ghost use Rattle.snap_copy.specs.Lowering.{OwnsLower, LacksRows};
-ghost use Rattle.snap_copy.specs.Owning.{Owns, OwnsAt, Lacks, LacksAt};
+ghost use Rattle.snap_copy.specs.Owning.{OwnsAt, LacksAt};
 ghost use Rattle.snap_copy.specs.Filling.{Finds, Fills, CopiesWord};
 ghost use Rattle.snap_rule.specs.declared.change.Doing.TheVariants.{Nothing};
 ghost use Rattle.snap_stamp.specs.declared.layout.Field.TheVariants.{Lock, Stamp};
@@ -23,7 +23,7 @@ use std::sync::Wait;
 
 /// The child of a held row, as a row of this epoch: the child itself, or a copy that takes its place. The held row is
 /// the place that the search of this write found for the key. `Full` comes only where the child is of an earlier epoch
-/// and every row was handed out; then nothing has changed.
+/// and every row was handed out; then no row was drawn, and what the pass knew it still knows.
 pub fn own_child<R: Wait>(
     rows: &Rows,
     rt: &R,
@@ -37,14 +37,14 @@ pub fn own_child<R: Wait>(
     requires writing { pass.old.view.stage ≡ Writing false false }
     requires whole { pass.old.view.doing ≡ Nothing }
     requires place { (child : ℕ) × (child ≢ 0) × IsAbove pass.old.view key parent side child }
-    ensures { MatchResult result (λ c. Owns rows.now.rows pass.old pass.new key parent side c) (λ f. (f.rows ≡ rows.now.rows) × Lacks rows.now.rows pass.old pass.new parent side) }
+    ensures { MatchResult result (λ c. OwnsAt rows.now.rows pass.old pass.new (Some key) parent side c) (λ f. LacksAt rows.now.rows pass.old pass.new (Some key) parent side f.rows) }
 {
     own_at(rows, rt, pass, Some(key), parent, side)
 }
 
 /// The same for a repair: the pass holds a row of which one side is higher by two at least, and the parent is that row
 /// and the side the higher one, or its child there and the side the other one. The write may have its entry, and no
-/// search is under way.
+/// search is under way. After `Full` the pass knows still what wants the copy.
 pub fn own_lower<R: Wait>(
     rows: &Rows,
     rt: &R,
@@ -59,7 +59,7 @@ pub fn own_lower<R: Wait>(
     requires held { Among parent pass.old.view.holds }
     requires live { (Among parent pass.old.view.reached) × IsBorn pass.old.view parent }
     requires tilt { (upper : ℕ) × IsTilt pass.old.view upper parent side }
-    ensures { MatchResult result (λ c. OwnsLower rows.now.rows pass.old pass.new parent side c) (λ f. LacksRows rows.now.rows pass.old pass.new f.rows) }
+    ensures { MatchResult result (λ c. OwnsLower rows.now.rows pass.old pass.new parent side c) (λ f. LacksRows rows.now.rows pass.old pass.new parent side f.rows) }
 {
     own_at(rows, rt, pass, None, parent, side)
 }

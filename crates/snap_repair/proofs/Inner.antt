@@ -1,13 +1,13 @@
 -- The double rotation: what each of its parts leaves for the next.
-use Rattle.std.proofs.Common.{◌≡◌, ◌≢◌, ◌∙◌, inl, inr, ℕ, List, [], Bool, Option, Some, None, refl, sym, ap, subst, arith, zero, suc, ⊎_elim, ◌||◌}
-use Rattle.snap_repair.proofs.Lifting.{mends_itself}
-use Rattle.snap_repair.specs.Answers.{HasLastStamp, IsLastStamp, IsMending, IsToLower, IsWornOut, Stops, Tries, stops_full}
+use Rattle.std.proofs.Common.{append_assoc, ◌≡◌, ◌≢◌, ◌∙◌, ◌∷◌, ◌++◌, inl, inr, ℕ, List, [], Bool, true, false, cond, le-leb, Option, Some, None, refl, sym, ap, subst, arith, zero, suc, ⊎_elim, ◌||◌}
+use Rattle.std.specs.declared.snapshot.Snapshot.{Snapshot}
+use Rattle.snap_repair.specs.Answers.{FindsWorn, Frees, IsMending, IsRefused, IsToLower, IsWornOut, Stops, Tries, freed, stops_full}
 use Rattle.snap_repair.specs.declared.answer.Repaired.TheVariants.{Done, RowsOut, StampOut}
 use Rattle.snap_repair.specs.Mending.{Looks, Mends, mended}
 use Rattle.snap_repair.specs.Raising.{Lifts}
 use Rattle.snap_repair.specs.declared.answer.Repaired.{Repaired}
 use Rattle.snap_rule.specs.declared.change.Doing.TheVariants.{Nothing}
-use Rattle.snap_search.proofs.Working.{no_notes}
+use Rattle.snap_search.proofs.Working.{grows_read, no_notes}
 use Rattle.snap_rule.specs.declared.debt.Mark.{Mark}
 use Rattle.snap_shape.proofs.Shaping.{born, edge_stays, pair_of}
 use Rattle.snap_shape.proofs.Touching.{None as NoOther, Stays, grip_stays, loaded}
@@ -17,17 +17,21 @@ use Rattle.snap_shape.specs.Shapes.{Rotates, later}
 use Rattle.snap_shape.specs.declared.grip.Grip.{Grip}
 use Rattle.snap_shape.specs.declared.grip.Turn.{Turn}
 use Rattle.snap_stamp.specs.Sides.{other}
+use Rattle.snap_stamp.specs.Stamps.{count_of, last_count}
+use Rattle.snap_stamp.specs.declared.layout.Field.{Field}
 use Rattle.snap_stamp.specs.declared.layout.Field.TheVariants.{Stamp}
 use Rattle.snap_stamp.specs.declared.side.Side.{Side}
 use Rattle.snap_stamp.specs.declared.side.Side.TheVariants as sides
 use Rattle.snap_steps.specs.Counting.{Among, times}
-use Rattle.snap_steps.specs.Facts.{IsKnown}
+use Rattle.snap_steps.specs.Facts.{IsKnown, fact}
 use Rattle.snap_steps.specs.Seen.{Known, Becomes}
 use Rattle.snap_steps.specs.States.{link_field}
 use Rattle.snap_steps.specs.Steps.Fields.{read, is_last}
 use Rattle.snap_steps.specs.Steps.Settling.{IsHeldRow, MayAimAt, aimed_view}
+use Rattle.snap_steps.specs.Steps.Locks.{unlocked}
+use Rattle.snap_steps.specs.declared.view.Fact.{Fact}
 use Rattle.snap_steps.specs.declared.view.View.{View}
-use Rattle.snap_repair.proofs.Mending.{edge_looks, grip_looks, keeps_holds, keeps_mends, mends_on, mends_to, no_rows}
+use Rattle.snap_repair.proofs.Mending.{edge_looks, grip_looks, keeps_holds, keeps_mends, looks_on, mends_on, mends_to, no_rows, read_looks}
 
 -- a pass that repairs goes on with it
 pub mending_on : (a b : Known) → Mends a b → IsMending a.view → IsMending b.view
@@ -46,6 +50,7 @@ aims_mends a b r key h = let e = h.1 in let s = loaded a (record { table = a.tab
     reached = λ q. omega (arith, s.reached q, ap (λ (k : Known). times q k.view.reached) e);
     present = λ n h. subst (λ (k : Known). Among n k.view.present) (sym e) h;
     lasting = λ q g y h. subst (λ (k : Known). IsKnown k.view.lasting q g y) (sym e) h;
+    refused = grows_read a b r Stamp h.0 (ap (λ (k : Known). k.view.refused) e);
   },
   ap (λ (k : Known). k.view.holds) e,
 )
@@ -95,24 +100,41 @@ dropped_edge e f row lower inner d l i t = record {
 pub rotation_mends : (a e f : Known) (row lower inner : Grip) (d : Side) → a.view.doing ≡ Nothing → Looks a e → Rotates e f (turn_at row d lower (other d) inner) → Mends a f × (f.view.holds ≡ a.view.holds)
 rotation_mends a e f row lower inner d whole s t = (mends_on a e f s.0.mends (keeps_mends e f row.row lower.row inner.row (s.0.mends.whole ∙ whole) t.keeps), keeps_holds e f row.row lower.row inner.row t.keeps ∙ s.1)
 
--- the moment at which a stamp was found at its greatest count, of a longer call
-worn_to : (a b c : Known) (r : ℕ) → Mends a b → IsWornOut b c r → IsWornOut a c r
-worn_to a b c r m w = record { leant = w.leant; before = mends_on a b w.leant m w.before; to_lower = w.to_lower; moment = w.moment; between = w.between; last = w.last; after = w.after; worn = w.worn }
+-- what was found in a part of a call was found in the call
+known_left : (l m : List Fact) (r : ℕ) (f : Field) (x : ℕ) → IsKnown l r f x → IsKnown (l ++ m) r f x
+known_left [] m r f x h = absurd h
+known_left (y ∷ ys) m r f x (inl e) = inl e
+known_left (y ∷ ys) m r f x (inr h) = inr (known_left ys m r f x h)
 
-worn_by : (a b c : Known) (r : ℕ) → IsWornOut a b r → Mends b c → IsWornOut a c r
-worn_by a b c r w m = record { leant = w.leant; before = w.before; to_lower = w.to_lower; moment = w.moment; between = w.between; last = w.last; after = mends_on w.moment b c w.after m; worn = m.noted.worn w.worn }
+known_right : (l m : List Fact) (r : ℕ) (f : Field) (x : ℕ) → IsKnown m r f x → IsKnown (l ++ m) r f x
+known_right [] m r f x h = h
+known_right (y ∷ ys) m r f x h = inr (known_right ys m r f x h)
+
+pub refused_to : (a b c : Known) (r x : ℕ) → Mends a b → IsRefused b c r x → IsRefused a c r x
+refused_to a b c r x m h = let g = m.refused in (g.0 ++ h.0, h.1 ∙ ap (λ (l : List Fact). l ++ h.0) g.1 ∙ append_assoc a.view.refused g.0 h.0, known_right g.0 h.0 r Stamp x h.2)
+
+refused_by : (a b c : Known) (r x : ℕ) → IsRefused a b r x → c.view.refused ≡ b.view.refused → IsRefused a c r x
+refused_by a b c r x h same = (h.0, same ∙ h.1, h.2)
+
+freed_append : (l : List ℕ) (r : ℕ) (v : View) → freed (l ++ r ∷ []) v ≡ unlocked (freed l v) r
+freed_append [] r v = refl
+freed_append (x ∷ xs) r v = freed_append xs r (unlocked v x)
+
+-- a row is freed after others
+frees_then : (a b c : Known) (r : ℕ) → Frees a b → Becomes b c (unlocked b.view r) → Frees a c
+frees_then a b c r f h = (f.0 ++ r ∷ [], h ∙ ap (λ (k : Known). let z : Known = record { table = k.table; view = unlocked k.view r } in z) f.1 ∙ ap (λ (v : View). let z : Known = record { table = a.table; view = v } in z) (sym (freed_append f.0 r a.view)))
 
 pub stops_to : (rows : ℕ) (a b c : Known) (o : Option Repaired) → Mends a b → Stops rows b c o → Stops rows a c o
 stops_to rows a b c None m h = tt
 stops_to rows a b c (Some Done) m h = h
-stops_to rows a b c (Some (RowsOut n)) m h = h
-stops_to rows a b c (Some (StampOut r)) m h = worn_to a b c r m h
+stops_to rows a b c (Some (RowsOut n at)) m h = record { all = h.all; before = mends_to true a b at.value m h.before; parent = h.parent; side = h.side; wants = h.wants; after = h.after; full = h.full }
+stops_to rows a b c (Some (StampOut r at)) m h = record { before = mends_on a b at.value m h.before; last = h.last; to_lower = h.to_lower; noted = refused_to a b c r h.last.stamp m h.noted; after = h.after; worn = h.worn }
 
-pub stops_by : (rows : ℕ) (a b c : Known) (o : Option Repaired) → Stops rows a b o → Mends b c → c.view.debt ≡ b.view.debt → c.view.handed ≡ b.view.handed → Stops rows a c o
-stops_by rows a b c None h m debt handed = tt
-stops_by rows a b c (Some Done) h m debt handed = debt ∙ h
-stops_by rows a b c (Some (RowsOut n)) h m debt handed = (h.0, omega (arith, h.1, handed))
-stops_by rows a b c (Some (StampOut r)) h m debt handed = worn_by a b c r h m
+pub stops_by : (rows : ℕ) (a b c : Known) (row : ℕ) (o : Option Repaired) → Stops rows a b o → Becomes b c (unlocked b.view row) → Stops rows a c o
+stops_by rows a b c row None h e = tt
+stops_by rows a b c row (Some Done) h e = ap (λ (k : Known). k.view.debt) e ∙ h
+stops_by rows a b c row (Some (RowsOut n at)) h e = record { all = h.all; before = h.before; parent = h.parent; side = h.side; wants = h.wants; after = frees_then at.value b c row h.after e; full = omega (arith, h.full, ap (λ (k : Known). k.view.handed) e) }
+stops_by rows a b c row (Some (StampOut r at)) h e = record { before = h.before; last = h.last; to_lower = h.to_lower; noted = refused_by a b c r h.last.stamp h.noted (ap (λ (k : Known). k.view.refused) e); after = frees_then at.value b c row h.after e; worn = ap (λ (k : Known). k.view.worn) e ∙ h.worn }
 
 pub tries_after : (rows : ℕ) (a b c : Known) (o : Option Repaired) → Mends a b → b.view.holds ≡ a.view.holds → Tries rows b c o → Tries rows a c o
 tries_after rows a b c o m h t = record { mends = mends_to (stops_full o) a b c m t.mends; holds = t.holds ∙ h; stops = stops_to rows a b c o m t.stops }
@@ -120,17 +142,30 @@ tries_after rows a b c o m h t = record { mends = mends_to (stops_full o) a b c 
 pub stops_none : (rows : ℕ) (a b : Known) → Mends a b → b.view.holds ≡ a.view.holds → Tries rows a b None
 stops_none rows a b m h = record { mends = m; holds = h; stops = tt }
 
--- a try stops at a row whose stamp is at the greatest count
-pub stops_worn : (rows : ℕ) (a b : Known) (row : ℕ) → Mends a b → b.view.holds ≡ a.view.holds → IsWornOut a b row → Tries rows a b (Some (StampOut row))
-stops_worn rows a b row m h w = record { mends = m; holds = h; stops = w }
+-- a look that finds the stamp of a row that is to be lowered at the greatest count
+pub worn_out : (a b : Known) (r : ℕ) → (w : FindsWorn a b r) → IsToLower b.view r → IsWornOut a b b r
+worn_out a b r w low = record { before = w.looks.0.mends; last = w.last; to_lower = low; noted = w.noted; after = ([], refl); worn = w.last.worn }
 
--- that of a row that was to be lowered, and then is found so
-pub worn_then : (a b c : Known) (r : ℕ) → Mends a b → IsToLower b.view r → Mends b c → HasLastStamp c.view r → IsWornOut a c r
-worn_then a b c r m low n last = record { leant = b; before = m; to_lower = low; moment = c; between = n; last = last; after = mends_itself c; worn = last.worn }
+-- after another look
+pub worn_after : (a b c : Known) (r : ℕ) → Looks a b → FindsWorn b c r → FindsWorn a c r
+worn_after a b c r s w = record { looks = looks_on a b c s w.looks; last = w.last; noted = refused_to a b c r w.last.stamp s.0.mends w.noted }
 
--- a look that finds the stamp of a held row so
-pub worn_here : (a b : Known) (g : Grip) → Looks a b → HasGrip a.view g → IsLastStamp b.view g.stamp → HasLastStamp b.view g.row
-worn_here a b g s h last = let i = grip_looks a b g s h in record { held = i.held; stamp = g.stamp; found = i.is_stamp; last = last.1; worn = last.0 }
+-- a try stops there
+pub stops_worn : (rows : ℕ) (a b : Known) (row : ℕ) (at : Snapshot Known) → at.value ≡ b → b.view.holds ≡ a.view.holds → (w : IsWornOut a b b row) → Mends a b → Tries rows a b (Some (StampOut row at))
+stops_worn rows a b row at is h w m = record { mends = m; holds = h; stops = subst (λ (k : Known). IsWornOut a b k row) (sym is) w }
+
+-- the load of a held row's stamp that finds it so
+pub worn_here : (a b : Known) (g : Grip) → HasGrip a.view g → Becomes a b (read a.view g.row Stamp g.stamp) → count_of g.stamp ≡ last_count → FindsWorn a b g.row
+worn_here a b g h e last =
+    let s = read_looks a b g.row Stamp g.stamp e in let i = grip_looks a b g s h in let yes : is_last Stamp g.stamp ≡ true = le-leb last_count (count_of g.stamp) (omega (arith, last)) in record {
+      looks = s;
+      last = record { held = i.held; stamp = g.stamp; found = i.is_stamp; last = last; worn = ap (λ (k : Known). k.view.worn) e ∙ ap (λ (t : Bool). a.view.worn || t) yes ∙ or_true a.view.worn };
+      noted = (fact g.row Stamp g.stamp ∷ [], ap (λ (k : Known). k.view.refused) e ∙ ap (λ (t : Bool). cond t (a.view.refused ++ fact g.row Stamp g.stamp ∷ []) a.view.refused) yes, inl (refl, refl, refl));
+    }
+  where
+    or_true : (t : Bool) → (t || true) ≡ true
+    or_true true = refl
+    or_true false = refl
 
 -- the same words are known once the to-do key has moved
 pub aimed_stays : (a b : Known) (r key : ℕ) → ((x : ℕ) × Becomes a b (aimed_view a.view r key x)) → Stays a b NoOther

@@ -1,10 +1,10 @@
 -- The end of the way of the to-do key, under the lock of its row.
-use Rattle.std.proofs.Common.{◌≡◌, ◌∙◌, ◌⊎◌, inl, inr, ℕ, true, false, Some, sym, ap}
+use Rattle.std.proofs.Common.{◌≡◌, ◌∙◌, inl, inr, ℕ, Bool, cond, false, Some, sym, ap}
 use Rattle.snap_repair.specs.Looking.{EndsBelow}
 use Rattle.snap_repair.specs.Mending.{Looks}
 use Rattle.snap_rule.specs.declared.reader.Point.TheVariants.{Standing}
 use Rattle.snap_rule.specs.declared.reader.Reading.TheVariants.{On}
-use Rattle.snap_search.specs.Endings.{EndsOn}
+use Rattle.snap_search.specs.Endings.{EndsOn, last_of}
 use Rattle.snap_search.specs.declared.endings.Ending.{Ending}
 use Rattle.snap_shape.specs.Grips.{HasGrip}
 use Rattle.snap_shape.specs.declared.grip.Grip.{Grip}
@@ -22,9 +22,8 @@ last_on rows a b key spot row to_do ends here same stamp grip s below = inr (inl
   at = inr (place ends.place, below);
 }))
   where
-    place : (spot.here ≡ true) ⊎ (a.view.place ≡ On key (Standing spot.row spot.stamp spot.side)) → b.view.place ≡ On key (Standing row.row row.stamp spot.side)
-    place (inl h) = absurd (let z : true ≡ false = sym h ∙ here in cc)
-    place (inr p) = s.0.place ∙ p ∙ (λ i. On key (Standing (sym same i) (sym stamp i) spot.side))
+    place : a.view.place ≡ On key (Standing (last_of spot) spot.stamp spot.side) → b.view.place ≡ On key (Standing row.row row.stamp spot.side)
+    place p = s.0.place ∙ p ∙ ap (λ (b : Bool). On key (Standing (cond b spot.above spot.row) spot.stamp spot.side)) here ∙ (λ i. On key (Standing (sym same i) (sym stamp i) spot.side))
 
 -- the same, where the grip came after the way
 pub last_after : (rows : ℕ) (a b d : Known) (key : ℕ) (spot : Ending) (row : Grip) → a.view.debt.to_do ≡ Some key → EndsOn rows a.view key spot → spot.here ≡ false → row.row ≡ spot.row → row.stamp ≡ spot.stamp → Looks a b → HasGrip b.view row → Looks b d → EndsBelow d.view row.row spot.side → MayAimAt d.view row.row
@@ -37,6 +36,5 @@ last_after rows a b d key spot row to_do ends here same stamp s grip t below = i
   at = inr (place ends.place, below);
 }))
   where
-    place : (spot.here ≡ true) ⊎ (a.view.place ≡ On key (Standing spot.row spot.stamp spot.side)) → d.view.place ≡ On key (Standing row.row row.stamp spot.side)
-    place (inl h) = absurd (let z : true ≡ false = sym h ∙ here in cc)
-    place (inr p) = t.0.place ∙ s.0.place ∙ p ∙ (λ i. On key (Standing (sym same i) (sym stamp i) spot.side))
+    place : a.view.place ≡ On key (Standing (last_of spot) spot.stamp spot.side) → d.view.place ≡ On key (Standing row.row row.stamp spot.side)
+    place p = t.0.place ∙ s.0.place ∙ p ∙ ap (λ (b : Bool). On key (Standing (cond b spot.above spot.row) spot.stamp spot.side)) here ∙ (λ i. On key (Standing (sym same i) (sym stamp i) spot.side))

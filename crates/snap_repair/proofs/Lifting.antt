@@ -9,7 +9,7 @@ use Rattle.snap_repair.specs.declared.look.Look.{Look}
 use Rattle.snap_rule.specs.Debt.{IsListed}
 use Rattle.snap_rule.specs.Debt.Lists.{or_else, taken}
 use Rattle.snap_rule.specs.declared.debt.Mark.{Mark}
-use Rattle.snap_search.proofs.Working.{no_notes}
+use Rattle.snap_search.proofs.Working.{grows_same, no_notes}
 use Rattle.snap_shape.proofs.Touching.{One, stored, stored_here}
 use Rattle.snap_shape.specs.Grips.{HasGrip, IsEdge, IsOfNow, edge_at}
 use Rattle.snap_shape.specs.Shapes.{Unlinks}
@@ -41,7 +41,12 @@ mends_itself a = record {
   reached = λ r. omega arith;
   present = λ e h. h;
   lasting = λ q f x h. h;
+  refused = grows_same a.view.refused a.view.refused refl;
 }
+
+-- and neither does a look
+pub looks_itself : (a : Known) → Looks a a
+looks_itself a = (record { mends = mends_itself a; held = λ r h. h; knows = λ q f x ne h. h; heights = λ q d h i. i; place = refl; debt = refl }, refl)
 
 below_else : (l : List ChildHeight) (p r : ℕ) (d : Side) (h : ℕ) → r ≢ p → IsBelow l r d h → IsBelow (heights_forgotten l p) r d h
 below_else [] p r d h ne i = i
@@ -68,7 +73,7 @@ right_now a b parent row rows l h apart look is e =
     let s = stored a b (heightened a.view parent.row row.row row.key h) row.row Height h e refl refl refl refl in
     let height : (d : Side) (x : ℕ) → HasHeight a.view row.row d x → HasHeight b.view row.row d x = λ d x k. ⊎_elim (λ z. inl (s.knows row.row (link_field d) 0 (λ w. link_no_height d w.1) z.0, z.1)) (λ z. inr (subst (λ (i : Known). IsBelow i.view.heights row.row d x) (sym e) (below_else a.view.heights parent.row row.row d x (λ w. apart (sym w)) z))) k in record {
       heightens = record {
-        mends = stored_mends a b (heightened a.view parent.row row.row row.key h) (One row.row Height) e refl refl refl refl refl refl refl refl refl refl s;
+        mends = stored_mends a b (heightened a.view parent.row row.row row.key h) (One row.row Height) e refl refl refl refl refl refl refl refl refl refl refl s;
         holds = s.holds;
         knows = λ q f x ne k. s.knows q f x ne k;
         listed = λ n x k. subst (λ (z : Known). IsListed n x z.view.debt.list) (sym e) (listed_more parent.row (word_in a.view.knows parent.row Stamp) n x a.view.debt.list k);
@@ -123,6 +128,7 @@ passed_mends b c p key r e = record {
   reached = λ q. omega (arith, ap (λ (k : Known). times q k.view.reached) e);
   present = λ n h. subst (λ (k : Known). Among n k.view.present) (sym e) h;
   lasting = λ q g y h. subst (λ (k : Known). IsKnown k.view.lasting q g y) (sym e) h;
+  refused = grows_same b.view.refused c.view.refused (ap (λ (k : Known). k.view.refused) e);
 }
 
 -- the same words are known where only steps and debt are others

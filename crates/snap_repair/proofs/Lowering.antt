@@ -1,17 +1,18 @@
 -- Copies and locks on the way down, and their release.
 use Rattle.std.proofs.Common.{◌≡◌, ◌≢◌, ◌≤◌, ◌<◌, ◌∙◌, ◌+◌, ◌∷◌, inl, inr, ℕ, List, [], Bool, cond, Option, Some, refl, sym, ap, subst, arith, ⊎_elim, eq-eqb, ne_eqb}
+use Rattle.std.specs.declared.snapshot.Snapshot.{Snapshot}
 use mathlib.Core.Logic.{dite}
 use native.Mathlib.Decide.{ℕ_discrete}
 use Rattle.snap_locks.specs.Held.{HasLocked}
 use Rattle.snap_repair.proofs.Inner.{stops_by, stops_to}
-use Rattle.snap_repair.specs.Answers.{Tries, stops_full}
+use Rattle.snap_repair.specs.Answers.{IsRowsOut, Tries, stops_full}
 use Rattle.snap_repair.specs.Looking.{HasLook, LeansTo, child_on, height_on}
 use Rattle.snap_repair.specs.Lowering.{HasChild, IsHigher, IsTilt, LacksRows, Leans, OwnsLower}
 use Rattle.snap_repair.specs.Mending.{Looks, Mends, NoWord, mended}
 use Rattle.snap_repair.specs.declared.answer.Repaired.{Repaired}
 use Rattle.snap_repair.specs.declared.answer.Repaired.TheVariants.{RowsOut}
 use Rattle.snap_repair.specs.declared.look.Look.{Look}
-use Rattle.snap_search.proofs.Working.{no_notes}
+use Rattle.snap_search.proofs.Working.{grows_same, no_notes}
 use Rattle.snap_shape.proofs.Touching.{link_no_birth, link_no_key, link_no_stamp}
 use Rattle.snap_shape.specs.Grips.{HasGrip, IsEdge, Leads, edge_at}
 use Rattle.snap_shape.specs.declared.grip.Grip.{Grip}
@@ -50,6 +51,7 @@ freed_mends d e r h = record {
   reached = λ q. omega (arith, ap (λ (k : Known). times q k.view.reached) h);
   present = λ n i. subst (λ (k : Known). Among n k.view.present) (sym h) i;
   lasting = λ q g y i. subst (λ (k : Known). IsKnown k.view.lasting q g y) (sym h) i;
+  refused = grows_same d.view.refused e.view.refused (ap (λ (k : Known). k.view.refused) h);
 }
 
 -- work under a lock that is freed again
@@ -58,7 +60,7 @@ tries_locked rows a b c d e r o m same free l t h =
     let k = locked_firm b c r l in let up = mends_on a b c m k.0.mends in let down = freed_mends d e r h in record {
       mends = mends_by (stops_full o) a d e (mends_to (stops_full o) a c d up t.mends) down;
       holds = ap (λ (x : Known). x.view.holds) h ∙ ap (removed r) (t.holds ∙ k.1 ∙ ap (λ (l : List ℕ). r ∷ l) same) ∙ removed_back r a.view.holds free;
-      stops = stops_to rows a c e o up (stops_by rows c d e o t.stops down (ap (λ (x : Known). x.view.debt) h) (ap (λ (x : Known). x.view.handed) h));
+      stops = stops_to rows a c e o up (stops_by rows c d e r o t.stops h);
     }
 
 -- an edge that a copy and a lock below it leave
@@ -123,8 +125,8 @@ leans_owned rows a b c parent side child r d o l h k held same high nz low tilts
     no_other sides.Left = λ e. cc
     no_other sides.Right = λ e. cc
 
-pub lacks_tries : (rows n : ℕ) (a b : Known) → LacksRows rows a b n → Tries rows a b (Some (RowsOut n))
-lacks_tries rows n a b h = record { mends = h.mends; holds = h.holds; stops = (h.all, h.full) }
+pub lacks_tries : (rows n : ℕ) (a b : Known) (parent : ℕ) (d : Side) (at : Snapshot Known) → at.value ≡ b → LacksRows rows a b parent d n → Tries rows a b (Some (RowsOut n at))
+lacks_tries rows n a b parent d at is h = record { mends = h.mends; holds = h.holds; stops = subst (λ (k : Known). IsRowsOut rows a b k n) (sym is) (record { all = h.all; before = h.mends; parent = parent; side = d; wants = h.wants; after = ([], refl); full = h.full }) }
 
 -- the row leans still after a look
 pub leans_looks : (a b : Known) (r : ℕ) (d : Side) → Looks a b → Leans a.view r d → Leans b.view r d

@@ -8,7 +8,7 @@ use Rattle.snap_repair.specs.Mending.{Firm, LinksWhatItDraws, Looks, Mends, Mend
 use Rattle.snap_rule.specs.State.{In}
 use Rattle.snap_search.specs.Places.{births_of}
 use Rattle.snap_search.specs.Walk.{KeepsReached}
-use Rattle.snap_search.proofs.Working.{no_notes, notes_on, with_more}
+use Rattle.snap_search.proofs.Working.{grows_on, grows_read, grows_same, no_notes, notes_on, with_more}
 use Rattle.snap_search.specs.Work.{Works, worked}
 use Rattle.snap_shape.proofs.Touching.{loaded}
 use Rattle.snap_shape.specs.Grips.{HasGrip, IsEdge, IsOfNow, edge_at}
@@ -74,6 +74,7 @@ joined_mends full a b c o p x y found = record {
   reached = λ r. omega (arith, x.reached r, y.reached r);
   present = λ e h. y.present e (x.present e h);
   lasting = λ r f n h. y.lasting r f n (x.lasting r f n h);
+  refused = grows_on a.view.refused b.view.refused c.view.refused x.refused y.refused;
 }
 
 same_size : (a b : Known) (o : Bool) → MendsTo o a b → b.view.rows ≡ a.view.rows
@@ -120,6 +121,7 @@ works_mends a b more w seen found = record {
   reached = w.kept;
   present = w.present;
   lasting = w.lasting;
+  refused = w.refused;
 }
 
 -- what a search notes tells of no full table
@@ -145,6 +147,7 @@ read_looks a b r f x e = let s = loaded a b r f x e in (
       reached = s.reached;
       present = λ n h. subst (Among n) (sym s.present) h;
       lasting = λ q g y h. subst (λ (k : Known). IsKnown k.view.lasting q g y) (sym e) h;
+      refused = grows_read a b r f x (ap (λ (k : Known). k.view.refused) e);
     };
     held = λ q h. subst (Among q) (sym s.holds) h;
     knows = λ q g y ne h. s.knows q g y (λ z. z) h;
@@ -169,6 +172,7 @@ epoch_looks a b x e = (
       reached = λ r. omega (arith, ap (λ (k : Known). times r k.view.reached) e);
       present = λ n h. subst (λ (k : Known). Among n k.view.present) (sym e) (with_more a.view.stage x n a.view.present h);
       lasting = λ q g y h. subst (λ (k : Known). IsKnown k.view.lasting q g y) (sym e) h;
+      refused = grows_same a.view.refused b.view.refused (ap (λ (k : Known). k.view.refused) e);
     };
     held = λ q h. subst (λ (k : Known). Among q k.view.holds) (sym e) h;
     knows = λ q g y ne h. subst (λ (k : Known). IsKnown k.view.knows q g y) (sym e) h;
@@ -193,6 +197,7 @@ born_looks a b r x e = let s = loaded a (known_as a (read a.view r Birth x)) r B
       reached = λ q. omega (arith, s.reached q, ap (λ (k : Known). times q k.view.reached) e);
       present = λ n h. subst (λ (k : Known). Among n k.view.present) (sym e) h;
       lasting = λ q g y h. subst (λ (k : Known). IsKnown k.view.lasting q g y) (sym e) (inr h);
+      refused = grows_same a.view.refused b.view.refused (ap (λ (k : Known). k.view.refused) e);
     };
     held = λ q h. subst (λ (k : Known). Among q k.view.holds) (sym e) h;
     knows = λ q g y ne h. subst (λ (k : Known). IsKnown k.view.knows q g y) (sym e) (s.knows q g y (λ z. z) h);
@@ -242,6 +247,7 @@ keeps_mends a b p r l whole k = record {
   reached = k.reached;
   present = λ n h. subst (λ (x : Known). Among n x.view.present) (sym k.is) h;
   lasting = λ q g y h. subst (λ (x : Known). IsKnown x.view.lasting q g y) (sym k.is) h;
+  refused = grows_same a.view.refused b.view.refused k.refused;
 }
 
 pub keeps_holds : (a b : Known) (p r l : ℕ) → Keeps a b p r l → b.view.holds ≡ a.view.holds
@@ -261,6 +267,7 @@ locked_firm a b r l = let e = l.is in (
       reached = λ q. omega (arith, ap (λ (k : Known). times q k.view.reached) e);
       present = λ n h. subst (λ (k : Known). Among n k.view.present) (sym e) h;
       lasting = λ q g y h. subst (λ (k : Known). IsKnown k.view.lasting q g y) (sym e) h;
+      refused = (l.refused, (ap (λ (k : Known). k.view.refused) e));
     };
     held = λ q h. omega (arith, h, ap (λ (k : Known). times q k.view.holds) e);
     knows = λ q g y ne h. subst (λ (k : Known). IsKnown k.view.knows q g y) (sym e) h;

@@ -1,15 +1,17 @@
 -- Heights and rotations, and what they leave.
-use Rattle.std.proofs.Common.{◌≡◌, ◌≢◌, ◌∙◌, ◌⊎◌, inl, inr, ℕ, zero, suc, List, [], refl, sym, ap, subst, arith}
+use Rattle.std.proofs.Common.{◌≡◌, ◌≢◌, ◌∙◌, ◌⊎◌, ◌+◌, inl, inr, ℕ, zero, suc, List, [], refl, sym, ap, subst, arith}
+use Rattle.snap_repair.specs.Answers.{Lowers}
 use Rattle.snap_repair.specs.Mending.{Looks, Mends, mended}
 use Rattle.snap_repair.specs.Raising.{Heightens, RaisesFor, TurnsNear}
 use Rattle.snap_rule.specs.Debt.{IsListed}
 use Rattle.snap_rule.specs.Debt.Lists.{or_else}
 use Rattle.snap_rule.specs.declared.debt.Mark.{Mark}
-use Rattle.snap_search.proofs.Working.{no_notes}
+use Rattle.snap_search.proofs.Working.{grows_same, no_notes}
 use Rattle.snap_shape.proofs.Touching.{One, Stays, stored}
 use Rattle.snap_shape.specs.Grips.{HasGrip, IsEdge, IsOfNow, edge_at, turn_at}
 use Rattle.snap_shape.specs.Shapes.{Rotates, later}
 use Rattle.snap_shape.specs.declared.grip.Grip.{Grip}
+use Rattle.snap_shape.specs.declared.grip.Turn.{Turn}
 use Rattle.snap_stamp.specs.Sides.{other}
 use Rattle.snap_stamp.specs.declared.layout.Field.{Field}
 use Rattle.snap_stamp.specs.declared.layout.Field.TheVariants.{Birth, Height, Key, Stamp}
@@ -29,8 +31,8 @@ abbrev known_as : Known → View → Known
 known_as k v = record { table = k.table; view = v }
 
 -- a step that stores one word of a held row, and may change the debt
-pub stored_mends : (b c : Known) (w : View) (P : ℕ → Field → Type 0) → Becomes b c w → known_as b w ≡ mended b w → w.doing ≡ b.view.doing → w.drawn ≡ b.view.drawn → w.own ≡ b.view.own → w.seen ≡ b.view.seen → w.notes ≡ b.view.notes → w.handed ≡ b.view.handed → w.epochs ≡ b.view.epochs → w.worn ≡ b.view.worn → w.lasting ≡ b.view.lasting → Stays b c P → Mends b c
-stored_mends b c w P e same doing drawn own seen notes handed epochs worn lasting s = record {
+pub stored_mends : (b c : Known) (w : View) (P : ℕ → Field → Type 0) → Becomes b c w → known_as b w ≡ mended b w → w.doing ≡ b.view.doing → w.drawn ≡ b.view.drawn → w.own ≡ b.view.own → w.seen ≡ b.view.seen → w.notes ≡ b.view.notes → w.handed ≡ b.view.handed → w.epochs ≡ b.view.epochs → w.worn ≡ b.view.worn → w.lasting ≡ b.view.lasting → w.refused ≡ b.view.refused → Stays b c P → Mends b c
+stored_mends b c w P e same doing drawn own seen notes handed epochs worn lasting refused s = record {
   is = e ∙ same ∙ ap (λ (k : Known). mended b k.view) (sym e);
   whole = ap (λ (k : Known). k.view.doing) e ∙ doing;
   links = no_rows b.view c.view (ap (λ (k : Known). k.view.drawn) e ∙ drawn) (ap (λ (k : Known). k.view.own) e ∙ own);
@@ -40,6 +42,7 @@ stored_mends b c w P e same doing drawn own seen notes handed epochs worn lastin
   reached = s.reached;
   present = λ n h. subst (Among n) (sym s.present) h;
   lasting = λ q g y h. subst (λ l. IsKnown l q g y) (sym (ap (λ (k : Known). k.view.lasting) e ∙ lasting)) h;
+  refused = grows_same b.view.refused c.view.refused (ap (λ (k : Known). k.view.refused) e ∙ refused);
 }
 
 pub listed_more : (m x n y : ℕ) (l : List Mark) → IsListed n y l → IsListed n y (listing m x l)
@@ -64,11 +67,17 @@ turns_looks a b p r l key s h = elim h [
   | inr x ↦ inr (s.0.knows l Key key (λ z. z) x.0, inr (ap (λ u. u.to_do) s.0.debt ∙ x.1))
 ]
 
+pub near_looks : (a b : Known) (p r l key : ℕ) → Looks a b → TurnsNear a.view p r l key → TurnsNear b.view p r l key
+near_looks a b p r l key s h = elim h [
+  | inl x ↦ inl (s.0.knows r Key key (λ z. z) x.0, elim x.1 [ inl u ↦ inl (aims_looks a b r s u) | inr u ↦ inr (aims_looks a b p s u) ])
+  | inr x ↦ inr (s.0.knows l Key key (λ z. z) x.0, ap (λ u. u.to_do) s.0.debt ∙ x.1)
+]
+
 -- a height after a look
 pub heightens : (a b c : Known) (parent row : Grip) (h : ℕ) → Looks a b → Becomes b c (heightened b.view parent.row row.row row.key h) → Heightens a c row
 heightens a b c parent row h looks e =
     let s = stored b c (heightened b.view parent.row row.row row.key h) row.row Height h e refl refl refl refl in record {
-      mends = mends_on a b c looks.0.mends (stored_mends b c (heightened b.view parent.row row.row row.key h) (One row.row Height) e refl refl refl refl refl refl refl refl refl refl s);
+      mends = mends_on a b c looks.0.mends (stored_mends b c (heightened b.view parent.row row.row row.key h) (One row.row Height) e refl refl refl refl refl refl refl refl refl refl refl s);
       holds = s.holds ∙ looks.1;
       knows = λ q f x ne k. s.knows q f x ne (looks.0.knows q f x (λ z. z) k);
       listed = λ n x k. subst (λ (z : Known). IsListed n x z.view.debt.list) (sym e) (listed_more parent.row (word_in b.view.knows parent.row Stamp) n x b.view.debt.list (subst (λ u. IsListed n x u.list) (sym looks.0.debt) k));
@@ -141,3 +150,16 @@ pub turned_mends : (a b c e f : Known) (parent row raised : Grip) (p d : Side) �
 turned_mends a b c e f parent row raised p d whole s t h i =
     let m1 = mends_on a b c s.0.mends (keeps_mends b c parent.row row.row raised.row (s.0.mends.whole ∙ whole) t.keeps) in
     (mends_on a e f (mends_on a c e m1 h.mends) i.mends, i.holds ∙ h.holds ∙ keeps_holds b c parent.row row.row raised.row t.keeps ∙ s.1)
+
+-- and what is known of the three rows then
+pub turned_lowers : (a c e f : Known) (parent row raised : Grip) (p d : Side) → IsEdge a.view (edge_at parent p row) → Mends a f × (f.view.holds ≡ a.view.holds) → Rotates a c (turn_at parent p row d raised) → Heightens c e (later row) → Heightens e f raised → Lowers a f (turn_at parent p row d raised)
+turned_lowers a c e f parent row raised p d u m t h i = record {
+  mends = m.0;
+  holds = m.1;
+  above = i.knows parent.row (link_field p) raised.row (λ z. link_no_height p z.1) (h.knows parent.row (link_field p) raised.row (λ z. link_no_height p z.1) t.above);
+  count = i.knows row.row Stamp (row.stamp + 4) (λ z. let e : Stamp ≡ Height = z.1 in cc) (h.knows row.row Stamp (row.stamp + 4) (λ z. let e : Stamp ≡ Height = z.1 in cc) t.lowered.is_stamp);
+}
+
+-- after a look
+pub lowers_after : (a b c : Known) (t : Turn) → Looks a b → Lowers b c t → Lowers a c t
+lowers_after a b c t s l = record { mends = mends_on a b c s.0.mends l.mends; holds = l.holds ∙ s.1; above = l.above; count = l.count }

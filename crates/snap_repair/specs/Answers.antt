@@ -1,12 +1,12 @@
 -- What repairs answer, and why they may stop.
-use Rattle.std.specs.Prelude.{◌≡◌, ◌⊎◌, ◌≤◌, ℕ, Option, None, Some, true, false, Bool}
-use Rattle.snap_repair.specs.Lowering.{IsHigher, Leans}
-use Rattle.snap_repair.specs.Mending.{Mends, MendsTo}
+use Rattle.std.specs.Prelude.{◌≡◌, ◌⊎◌, ◌+◌, ◌≤◌, ℕ, List, [], ◌∷◌, ◌++◌, Option, None, Some, true, false, Bool}
+use Rattle.snap_repair.specs.Lowering.{IsHigher, Leans, WantsCopy}
+use Rattle.snap_repair.specs.Mending.{Looks, Mends, MendsTo}
 use Rattle.snap_repair.specs.declared.answer.Repaired.{Repaired}
 use Rattle.snap_repair.specs.declared.answer.Repaired.TheVariants.{Done, RowsOut, StampOut}
 use Rattle.snap_rule.specs.Debt.{no_debt}
 use Rattle.snap_rule.specs.declared.change.Doing.TheVariants.{Nothing}
-use Rattle.snap_shape.specs.declared.grip.Grip.{Grip}
+use Rattle.snap_shape.specs.declared.grip.Turn.{Turn}
 use Rattle.snap_shape.specs.Grips.{Leads}
 use Rattle.snap_stamp.specs.Sides.{other}
 use Rattle.snap_stamp.specs.Stamps.{count_of, last_count}
@@ -14,7 +14,9 @@ use Rattle.snap_stamp.specs.declared.layout.Field.TheVariants.{Stamp}
 use Rattle.snap_stamp.specs.declared.side.Side.{Side}
 use Rattle.snap_steps.specs.Counting.{Among}
 use Rattle.snap_steps.specs.Facts.{IsKnown}
-use Rattle.snap_steps.specs.Seen.{Known}
+use Rattle.snap_steps.specs.Seen.{Known, Becomes}
+use Rattle.snap_steps.specs.Steps.Locks.{unlocked}
+use Rattle.snap_steps.specs.declared.view.Fact.{Fact}
 use Rattle.snap_steps.specs.declared.view.View.{View}
 use Rattle.snap_steps.specs.declared.view.Stage.TheVariants.{Writing}
 
@@ -22,10 +24,6 @@ use Rattle.snap_steps.specs.declared.view.Stage.TheVariants.{Writing}
 pub record IsMending (v : View) : Type 0 where
   pub writing : (made : Bool) × (counted : Bool) × (v.stage ≡ Writing made counted)
   pub whole : v.doing ≡ Nothing
-
--- the stamp is at the greatest count, and the pass has found one so
-abbrev pub IsLastStamp : View → ℕ → Type 0
-IsLastStamp v stamp = (v.worn ≡ true) × (count_of stamp ≡ last_count)
 
 -- the held row has its stamp at the greatest count, as a load found
 pub record HasLastStamp (v : View) (row : ℕ) : Type 0 where
@@ -39,34 +37,67 @@ pub record HasLastStamp (v : View) (row : ℕ) : Type 0 where
 abbrev pub IsToLower : View → ℕ → Type 0
 IsToLower v r = ((d : Side) × Leans v r d) ⊎ ((upper : ℕ) × (d : Side) × Leans v upper d × Leads v upper d r × IsHigher v r (other d))
 
--- in this call the row was to be lowered, and then it had its stamp at the greatest count
-pub record IsWornOut (old new : Known) (row : ℕ) : Type 0 where
-  pub leant : Known
-  pub before : Mends old leant
-  pub to_lower : IsToLower leant.view row
-  pub moment : Known
-  pub between : Mends leant moment
+-- a load in this call found the row's stamp to be this one, at the greatest count: for it the pass was refused the row
+abbrev pub IsRefused : (old new : Known) → ℕ → ℕ → Type 0
+IsRefused old new row stamp = (more : List Fact) × (new.view.refused ≡ old.view.refused ++ more) × IsKnown more row Stamp stamp
+
+-- a look found the stamp of a held row at the greatest count
+pub record FindsWorn (old new : Known) (row : ℕ) : Type 0 where
+  pub looks : Looks old new
+  pub last : HasLastStamp new.view row
+  pub noted : IsRefused old new row last.stamp
+
+-- rows are freed, one after another
+abbrev pub freed : List ℕ → View → View
+freed [] v = v
+freed (r ∷ rs) v = freed rs (unlocked v r)
+
+-- and nothing else was done
+abbrev pub Frees : Known → Known → Type 0
+Frees old new = (rows : List ℕ) × Becomes old new (freed rows old.view)
+
+-- at a moment of the pass a row has its own stamp at the greatest count, as a load of this call under its lock found, and is to be lowered by what the pass knew at that same moment. After it rows were freed, and no more
+pub record IsWornOut (old new moment : Known) (row : ℕ) : Type 0 where
+  pub before : Mends old moment
   pub last : HasLastStamp moment.view row
-  pub after : Mends moment new
+  pub to_lower : IsToLower moment.view row
+  pub noted : IsRefused old new row last.stamp
+  pub after : Frees moment new
   pub worn : new.view.worn ≡ true
 
--- a row was lowered, or its stamp is at the greatest count
-pub record Turns (old new : Known) (row : Grip) (done : Bool) : Type 0 where
+-- at a moment of the pass a rotation wants a copy of a child of an earlier epoch, and a load of this call found that every row was handed out. After it rows were freed, and no more
+pub record IsRowsOut (rows : ℕ) (old new moment : Known) (found : ℕ) : Type 0 where
+  pub all : found ≡ rows
+  pub before : MendsTo true old moment
+  pub parent : ℕ
+  pub side : Side
+  pub wants : WantsCopy moment.view parent side
+  pub after : Frees moment new
+  pub full : rows ≤ new.view.handed
+
+-- the row was lowered: the parent leads to the row that came up, and the row has the next count
+pub record Lowers (old new : Known) (t : Turn) : Type 0 where
   pub mends : Mends old new
   pub holds : new.view.holds ≡ old.view.holds
-  pub worn : done ≡ false → HasLastStamp new.view row.row
+  pub above : Leads new.view t.parent.row t.parent_side t.raised.row
+  pub count : IsKnown new.view.knows t.row.row Stamp (t.row.stamp + 4)
+
+-- so it was, or its stamp is at the greatest count
+abbrev pub Turns : Known → Known → Turn → Bool → Type 0
+Turns old new t true = Lowers old new t
+Turns old new t false = FindsWorn old new t.row.row
 
 -- what an answer tells
 abbrev pub Tells : ℕ → Known → Known → Repaired → Type 0
 Tells rows old new Done = new.view.debt ≡ no_debt
-Tells rows old new (RowsOut n) = (n ≡ rows) × (rows ≤ new.view.handed)
-Tells rows old new (StampOut row) = IsWornOut old new row
+Tells rows old new (RowsOut n at) = IsRowsOut rows old new at.value n
+Tells rows old new (StampOut row at) = IsWornOut old new at.value row
 
 -- whether it tells of a full table
 abbrev pub is_full : Repaired → Bool
 is_full Done = false
-is_full (RowsOut n) = true
-is_full (StampOut row) = false
+is_full (RowsOut n at) = true
+is_full (StampOut row at) = false
 
 -- what a try of a repair tells, which stops the repair or doesn't
 abbrev pub Stops : ℕ → Known → Known → Option Repaired → Type 0

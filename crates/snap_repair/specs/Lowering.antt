@@ -1,5 +1,5 @@
 -- Where a row leans, and the copies that its rotation wants.
-pub use Rattle.snap_copy.specs.Lowering.{LacksRows, OwnsLower}
+pub use Rattle.snap_copy.specs.Lowering.{LacksRows, OwnsLower, WantsCopy}
 pub use Rattle.snap_steps.specs.Steps.Tilts.{Leans, IsTilt}
 use Rattle.std.specs.Prelude.{◌≢◌, ◌<◌, ℕ}
 use Rattle.snap_shape.specs.Grips.{Leads}

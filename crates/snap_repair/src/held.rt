@@ -1,6 +1,6 @@
 //! What a pass finds out of rows under their locks.
 ghost use Rattle.std.specs.Prelude.{◌≡◌, ◌≢◌, ◌⊎◌, ◌≤◌, ◌<◌, [], ◌∷◌, Some, false, MatchOption, MatchBool, IsTrue};
-ghost use Rattle.snap_repair.specs.Answers.{IsLastStamp, IsMending};
+ghost use Rattle.snap_repair.specs.Answers.{FindsWorn, IsMending};
 ghost use Rattle.snap_repair.specs.Looking.{EndsBelow, HasLook, LeadsPast};
 ghost use Rattle.snap_repair.specs.Mending.{Looks, Mends};
 ghost use Rattle.snap_search.specs.Endings.{EndsOn};
@@ -191,7 +191,7 @@ pub fn is_worn_out(rows: &Rows, pass: &mut Pass, row: &Grip) -> bool
     requires row { row.now.row ≤ rows.now.rows }
     requires grip { HasGrip pass.old.view row.now }
     ensures looks { Looks pass.old pass.new }
-    ensures worn { MatchBool result (IsLastStamp pass.new.view row.now.stamp) (count_of row.now.stamp < last_count) }
+    ensures worn { MatchBool result (FindsWorn pass.old pass.new row.now.row) (count_of row.now.stamp < last_count) }
 {
     let stamp = load_word(rows, pass, row.row, Field::Stamp);
     Stamp::of(stamp).is_last()

@@ -1,12 +1,14 @@
 //! Rotations at a row of which one side is higher by two at least.
 //!
 //! A row is locked only while the row above it is held, so locks are taken downwards alone.
-ghost use Rattle.std.specs.Prelude.{◌≡◌, ◌≢◌, ◌≤◌, [], ◌∷◌, Some, IsTrue};
-ghost use Rattle.snap_repair.specs.Answers.{IsMending, Tries, Turns};
+ghost use Rattle.std.specs.Prelude.{◌≡◌, ◌≢◌, ◌<◌, ◌≤◌, [], ◌∷◌, Some, IsTrue, MatchOption};
+ghost use Rattle.snap_repair.specs.Answers.{IsMending, IsWornOut, Lowers, Tries, Turns};
 ghost use Rattle.snap_repair.specs.Lowering.{HasChild, IsHigher, Leans};
+ghost use Rattle.snap_repair.specs.Mending.{Looks};
 ghost use Rattle.snap_repair.specs.Raising.{Lifts, TurnsNear};
 ghost use Rattle.snap_shape.specs.Grips.{AreWithin, IsEdge, IsTurning, IsWithin, Leads, edge_at};
 ghost use Rattle.snap_stamp.specs.Sides.{other};
+ghost use Rattle.snap_stamp.specs.Stamps.{count_of, last_count};
 ghost use Rattle.snap_steps.specs.Counting.{Among};
 ghost use Rattle.snap_steps.specs.Seen.{IsOf};
 
@@ -19,6 +21,7 @@ use snap_locks::{lock, unlock};
 use snap_shape::{Edge, Grip, Turn, rotate, turn_of, unlink_child};
 use snap_stamp::{Key, RowNo, Side};
 use snap_steps::{Pass, Rows, aim};
+use std::snapshot::Snapshot;
 use std::sync::Wait;
 
 /// Turns a held row that leans: first its higher child is made one of this epoch and locked.
@@ -42,7 +45,12 @@ pub fn tilt<R: Wait>(
     let (upper, row) = (edge.parent.row, edge.child.row);
     let child = match own_lower(rows, rt, pass, row, higher) {
         Ok(child) => child,
-        Err(full) => return Some(Repaired::RowsOut { rows: full.rows }),
+        Err(full) => {
+            return Some(Repaired::RowsOut {
+                rows: full.rows,
+                at: Snapshot::of(pass),
+            });
+        }
     };
     if child == row || child == upper {
         return None;
@@ -92,7 +100,10 @@ fn at_child<R: Wait>(
     if turn_row(rows, pass, &turn, key) {
         None
     } else {
-        Some(Repaired::StampOut { row })
+        Some(Repaired::StampOut {
+            row,
+            at: Snapshot::of(pass),
+        })
     }
 }
 
@@ -112,7 +123,12 @@ fn tilt_inner<R: Wait>(rows: &Rows, rt: &R, pass: &mut Pass, turn: &Turn) -> Opt
     let (upper, row, lower) = (turn.parent.row, turn.row.row, turn.raised.row);
     let inner = match own_lower(rows, rt, pass, lower, inward) {
         Ok(inner) => inner,
-        Err(full) => return Some(Repaired::RowsOut { rows: full.rows }),
+        Err(full) => {
+            return Some(Repaired::RowsOut {
+                rows: full.rows,
+                at: Snapshot::of(pass),
+            });
+        }
     };
     if inner == lower || inner == row || inner == upper {
         return None;
@@ -164,10 +180,12 @@ fn turn_twice(rows: &Rows, pass: &mut Pass, turn: &Turn, raised: &Grip) -> Optio
     requires to_do { pass.old.view.debt.to_do ≡ Some turn.now.row.key }
     ensures { Tries rows.now.rows pass.old pass.new result }
 {
-    let (row, lower, lower_key) = (turn.row.row, turn.raised.row, turn.raised.key);
-    let (lowest, raised_key) = (turn.raised, raised.key);
-    if is_worn_out(rows, pass, &lowest) {
-        return Some(Repaired::StampOut { row: lower });
+    let (lower_key, raised_key) = (turn.raised.key, raised.key);
+    if let Some(worn) = worn_row(rows, pass, turn) {
+        return Some(Repaired::StampOut {
+            row: worn,
+            at: Snapshot::of(pass),
+        });
     }
     let edge = Edge {
         parent: turn.row,
@@ -190,11 +208,29 @@ fn turn_twice(rows: &Rows, pass: &mut Pass, turn: &Turn, raised: &Grip) -> Optio
         child: turn.row,
     };
     let second = turn_of(&above, turn.side, raised);
-    if turn_row(rows, pass, &second, raised_key) {
-        None
-    } else {
-        Some(Repaired::StampOut { row })
+    lower_row(rows, pass, &second, raised_key);
+    None
+}
+
+// Which of the two rows that are to be lowered may be lowered no more. Both are looked at before either is lowered.
+fn worn_row(rows: &Rows, pass: &mut Pass, turn: &Turn) -> Option<RowNo>
+    requires table { IsOf pass.old rows.now }
+    requires mending { IsMending pass.old.view }
+    requires rows { AreWithin rows.now.rows turn.now }
+    requires turn { IsTurning pass.old.view turn.now }
+    requires leans { Leans pass.old.view turn.now.row.row turn.now.side }
+    requires higher { IsHigher pass.old.view turn.now.raised.row (other turn.now.side) }
+    ensures looks { Looks pass.old pass.new }
+    ensures worn { MatchOption result ((count_of turn.now.raised.stamp < last_count) × (count_of turn.now.row.stamp < last_count)) (λ r. IsWornOut pass.old pass.new pass.new r) }
+{
+    let (row, lower) = (turn.row, turn.raised);
+    if is_worn_out(rows, pass, &lower) {
+        return Some(lower.row);
     }
+    if is_worn_out(rows, pass, &row) {
+        return Some(row.row);
+    }
+    None
 }
 
 // Of the row that the first of two rotations has lowered: it leaves the tree, or gets its height, and the to-do key goes
@@ -231,12 +267,26 @@ fn turn_row(rows: &Rows, pass: &mut Pass, turn: &Turn, key: Key) -> bool
     requires rows { AreWithin rows.now.rows turn.now }
     requires turn { IsTurning pass.old.view turn.now }
     requires aims { TurnsNear pass.old.view turn.now.parent.row turn.now.row.row turn.now.raised.row key }
-    ensures { Turns pass.old pass.new turn.now.row result }
+    ensures { Turns pass.old pass.new turn.now result }
 {
     let row = turn.row;
     if is_worn_out(rows, pass, &row) {
         return false;
     }
+    lower_row(rows, pass, turn, key);
+    true
+}
+
+// The same of a row whose stamp isn't at its greatest count.
+fn lower_row(rows: &Rows, pass: &mut Pass, turn: &Turn, key: Key)
+    requires table { IsOf pass.old rows.now }
+    requires mending { IsMending pass.old.view }
+    requires rows { AreWithin rows.now.rows turn.now }
+    requires turn { IsTurning pass.old.view turn.now }
+    requires aims { TurnsNear pass.old.view turn.now.parent.row turn.now.row.row turn.now.raised.row key }
+    requires count { count_of turn.now.row.stamp < last_count }
+    ensures { Lowers pass.old pass.new turn.now }
+{
     let lowered = rotate(rows, pass, turn, key);
     let below = Edge {
         parent: turn.raised,
@@ -250,5 +300,4 @@ fn turn_row(rows: &Rows, pass: &mut Pass, turn: &Turn, key: Key) -> bool
         child: turn.raised,
     };
     set_height(rows, pass, &above);
-    true
 }

@@ -2,15 +2,15 @@
 use Rattle.std.proofs.Common.{◌≡◌, inl, inr, ℕ, List, [], ◌∷◌, ◌++◌, Bool, refl, sym, ap, ◌∙◌, subst, arith}
 use Rattle.snap_rule.specs.declared.reader.Point.TheVariants.{Standing}
 use Rattle.snap_rule.specs.declared.reader.Reading.TheVariants.{On}
-use Rattle.snap_search.specs.Endings.{EndsOn, end_at, FindsEnd, Follows}
+use Rattle.snap_search.specs.Endings.{EndsOn, IsAt, end_at, FindsEnd, Follows}
 use Rattle.snap_search.specs.Places.{Comes, Goes, EndsAt, EndsFrom, births_of}
 use Rattle.snap_search.specs.Work.{Works}
 use Rattle.snap_search.specs.declared.down.Spot.{Spot}
 use Rattle.snap_search.specs.declared.endings.Ending.{Ending}
 use Rattle.snap_search.specs.declared.places.Place.{Place}
 use Rattle.snap_search.specs.declared.places.Place.TheVariants.{Here, Below, Shared}
-use Rattle.snap_search.proofs.Finding.{births_on}
-use Rattle.snap_search.proofs.Working.{works_on, worked_by, no_notes, epoch_works, epoch_now, stays_reached}
+use Rattle.snap_search.proofs.Finding.{births_on, birth_notes_on, all_from_on}
+use Rattle.snap_search.proofs.Working.{works_on, worked_by, grows_same, no_notes, epoch_works, epoch_now, stays_reached}
 use Rattle.snap_stamp.specs.declared.side.Side.TheVariants.{Right}
 use Rattle.snap_steps.specs.Counting.{times, Among}
 use Rattle.snap_steps.specs.Facts.{IsKnown}
@@ -30,6 +30,7 @@ again_works old new key e = record {
   kept = λ n. omega (arith, ap (λ (k : Known). times n k.view.reached) e);
   lasting = λ n g y h. subst (λ (k : Known). IsKnown k.view.lasting n g y) (sym e) h;
   present = λ y h. subst (λ (k : Known). Among y k.view.present) (sym e) h;
+  refused = grows_same old.view.refused new.view.refused (ap (λ (k : Known). k.view.refused) e);
 }
 
 pub begins : (rows : ℕ) (old a new : Known) (key e : ℕ) (up spot : Spot) (made counted : Bool) → old.view.stage ≡ Writing made counted → Becomes old a (epoch_noted old.view e) → Becomes a new (begun_again a.view key) → spot.row ≡ 0 → spot.stamp ≡ 0 → spot.side ≡ Right → up.row ≡ 0 → up.side ≡ Right → Follows rows old new key e up spot
@@ -40,6 +41,7 @@ begins rows old a new key e up spot made counted writing load set row stamp side
       works = works_on old a new (Epoch e ∷ []) [] (epoch_works old a e load) second;
       seen = ap (λ (k : Known). k.view.seen) set ∙ ap (λ (k : Known). k.view.seen) load;
       now_is = second.present e now;
+      noted = tt;
       low = (omega (arith, row), omega (arith, up_row));
       reached = inl row;
       present = inl row;
@@ -58,6 +60,7 @@ follows rows old mid new key e up spot next s w = record {
   works = all_works old mid new key e s.births w.births s.works w.works;
   seen = w.seen ∙ s.seen;
   now_is = w.works.present e s.now_is;
+  noted = all_from_on e s.births w.births s.noted w.noted;
   low = (w.low, s.low.0);
   reached = w.reached;
   present = w.present;
@@ -67,23 +70,33 @@ follows rows old mid new key e up spot next s w = record {
   on_right = s.faces;
 }
 
-pub finds_end : (rows : ℕ) (old mid new : Known) (key e : ℕ) (up spot : Spot) (p : Place) (end : Ending) → Follows rows old mid key e up spot → Comes rows mid new key e p → end ≡ end_at p up spot → FindsEnd rows old new key end
+pub finds_end : (rows : ℕ) (old mid new : Known) (key e : ℕ) (up spot : Spot) (p : Place) (end : Ending) → Follows rows old mid key e up spot → Comes rows mid new key e spot p → end ≡ end_at p up spot → FindsEnd rows old new key end
 finds_end rows old mid new key e up spot p end s w is = record {
   epoch = e;
   births = s.births ++ w.births;
   works = all_works old mid new key e s.births w.births s.works w.works;
   seen = w.seen ∙ s.seen;
+  now = w.works.present e s.now_is;
+  place = p;
+  is_place = subst (IsAt p) (sym is) (at_end p);
+  noted = birth_notes_on e s.births w.births p s.noted w.noted;
+  at = w.at;
   ends = subst (EndsOn rows new.view key) (sym is) (go p w.at w.from);
 }
   where
-    go : (p : Place) → EndsAt rows new.view key e p → EndsFrom new.view key p → EndsOn rows new.view key (end_at p up spot)
-    go (Here row stamp) at from = record {
+    at_end : (p : Place) → IsAt p (end_at p up spot)
+    at_end (Here row) = (refl, refl, refl)
+    at_end (Below row stamp side) = (refl, refl, refl, refl)
+    at_end (Shared row stamp side) = (refl, refl, refl, refl)
+
+    go : (p : Place) → EndsAt rows new.view key e p → EndsFrom new.view key spot p → EndsOn rows new.view key (end_at p up spot)
+    go (Here row) at from = record {
       low = (at.1, s.low.0);
       reached = inr at.2;
       above = stays_reached mid.view new.view spot.row w.works.kept s.reached;
       on_right = s.faces;
       faces = λ z. absurd (at.0 z);
-      place = inl refl;
+      place = from;
     }
     go (Below row stamp side) at from = record {
       low = (at.0, s.low.1);
@@ -91,7 +104,7 @@ finds_end rows old mid new key e up spot p end s w is = record {
       above = stays_reached mid.view new.view up.row w.works.kept s.upper;
       on_right = s.on_right;
       faces = from.1;
-      place = inr from.0;
+      place = from.0;
     }
     go (Shared row stamp side) at from = record {
       low = (at.0, s.low.1);
@@ -99,5 +112,5 @@ finds_end rows old mid new key e up spot p end s w is = record {
       above = stays_reached mid.view new.view up.row w.works.kept s.upper;
       on_right = s.on_right;
       faces = from.1;
-      place = inr from.0;
+      place = from.0;
     }

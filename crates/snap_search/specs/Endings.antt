@@ -1,8 +1,8 @@
 -- Where the way of a key ends in the rows of this epoch, for a repair.
-use Rattle.std.specs.Prelude.{◌≡◌, ◌⊎◌, ℕ, ◌≤◌, List, ◌∷◌, true, false}
+use Rattle.std.specs.Prelude.{◌≡◌, ℕ, ◌≤◌, List, ◌∷◌, true, false, cond}
 use Rattle.snap_rule.specs.declared.reader.Point.TheVariants.{Standing}
 use Rattle.snap_rule.specs.declared.reader.Reading.TheVariants.{On}
-use Rattle.snap_search.specs.Places.{births_of}
+use Rattle.snap_search.specs.Places.{births_of, AllFrom, Births, EndsAt}
 use Rattle.snap_search.specs.Work.{Works, IsReached, IsPresent}
 use Rattle.snap_search.specs.declared.down.Spot.{Spot}
 use Rattle.snap_search.specs.declared.endings.Ending.{Ending}
@@ -14,6 +14,10 @@ use Rattle.snap_steps.specs.Seen.{Known}
 use Rattle.snap_steps.specs.declared.view.View.{View}
 use Rattle.snap_steps.specs.declared.view.WordNote.TheVariants.{Epoch}
 
+-- the row from which the way last went on: where the last row has the key, the one above it
+abbrev pub last_of : Ending → ℕ
+last_of e = cond e.here e.above e.row
+
 -- where the way of the key ended: the last row of this epoch and the row above it, which is to be checked under its lock
 pub record EndsOn (rows : ℕ) (v : View) (key : ℕ) (e : Ending) : Type 0 where
   pub low : (e.row ≤ rows) × (e.above ≤ rows)
@@ -21,20 +25,31 @@ pub record EndsOn (rows : ℕ) (v : View) (key : ℕ) (e : Ending) : Type 0 wher
   pub above : IsReached v e.above
   pub on_right : e.above ≡ 0 → e.above_side ≡ Right
   pub faces : e.row ≡ 0 → e.side ≡ Right
-  pub place : e.here ≡ true ⊎ (v.place ≡ On key (Standing e.row e.stamp e.side))
+  pub place : v.place ≡ On key (Standing (last_of e) e.stamp e.side)
 
 -- the place of the key, with the rows above it: that at which the last step down began, and the one before
 abbrev pub end_at : Place → Spot → Spot → Ending
-end_at (Here row stamp) above spot = record { above = spot.row; above_side = spot.side; row = row; stamp = stamp; side = spot.side; here = true }
+end_at (Here row) above spot = record { above = spot.row; above_side = spot.side; row = row; stamp = spot.stamp; side = spot.side; here = true }
 end_at (Below row stamp side) above spot = record { above = above.row; above_side = above.side; row = row; stamp = stamp; side = side; here = false }
 end_at (Shared row stamp side) above spot = record { above = above.row; above_side = above.side; row = row; stamp = stamp; side = side; here = false }
 
--- the end of the way of the key. The pass has seen no more than before, and it leaves notes of the epoch and of the births on its way
+-- the end of a way is at this place
+abbrev pub IsAt : Place → Ending → Type 0
+IsAt (Here row) e = (e.here ≡ true) × (e.row ≡ row) × (e.side ≡ e.above_side)
+IsAt (Below row stamp side) e = (e.here ≡ false) × (e.row ≡ row) × (e.stamp ≡ stamp) × (e.side ≡ side)
+IsAt (Shared row stamp side) e = (e.here ≡ false) × (e.row ≡ row) × (e.stamp ≡ stamp) × (e.side ≡ side)
+
+-- the end of the way of the key, at the place that the search found. The pass has seen no more than before, and it leaves notes of the epoch and of the births on its way
 pub record FindsEnd (rows : ℕ) (old new : Known) (key : ℕ) (e : Ending) : Type 0 where
   pub epoch : ℕ
   pub births : List ℕ
   pub works : Works old new (Epoch epoch ∷ births_of key births)
   pub seen : new.view.seen ≡ old.view.seen
+  pub now : Among epoch new.view.present
+  pub place : Place
+  pub is_place : IsAt place e
+  pub noted : Births epoch births place
+  pub at : EndsAt rows new.view key epoch place
   pub ends : EndsOn rows new.view key e
 
 -- a search for such an end that goes on: where it stands, and where it stood before
@@ -43,6 +58,7 @@ pub record Follows (rows : ℕ) (old now : Known) (key epoch : ℕ) (above spot 
   pub works : Works old now (Epoch epoch ∷ births_of key births)
   pub seen : now.view.seen ≡ old.view.seen
   pub now_is : Among epoch now.view.present
+  pub noted : AllFrom epoch births
   pub low : (spot.row ≤ rows) × (above.row ≤ rows)
   pub reached : IsReached now.view spot.row
   pub present : IsPresent now.view spot.row epoch

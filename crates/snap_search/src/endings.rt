@@ -10,8 +10,9 @@ use snap_stamp::{Key, RowNo, Side};
 use snap_steps::{Pass, Rows, load_epoch, set_out_again};
 use std::sync::Wait;
 
-/// The last row of this epoch on the way of a key, with its stamp and the side, and the row above it. At row 0 there is
-/// no row above.
+/// The last row of this epoch on the way of a key, and the row above it. The stamp is that of the row from which the way
+/// last went on, and the side the one on which it did: this is the row, or where the row has the key the row above. At
+/// row 0 there is no row above.
 #[derive(Clone, Copy)]
 pub struct Ending {
     pub above: RowNo,
@@ -25,7 +26,7 @@ pub struct Ending {
 
 /// Finds where the way of a key ends in the rows of this epoch, and the row above it, for a pass in a write. The pass
 /// has seen no more of the history then: what it has seen may end with the entry of its write. It loads `epoch` first,
-/// notes the births of the rows on its way, and waits for nothing but its own tries.
+/// notes births of rows on its way, and waits for nothing but its own tries.
 pub fn find_to_repair<R: Wait>(rows: &Rows, rt: &R, pass: &mut Pass, key: Key) -> Ending
     requires table { IsOf pass.old rows.now }
     requires writing { (made : Bool) × (counted : Bool) × (pass.old.view.stage ≡ Writing made counted) }
@@ -52,11 +53,11 @@ fn end_from(place: &Place, above: &Spot, spot: &Spot) -> Ending
     ensures { result ≡ end_at place.now above.now spot.now }
 {
     match *place {
-        Place::Here { row, stamp } => Ending {
+        Place::Here { row } => Ending {
             above: spot.row,
             above_side: spot.side,
             row,
-            stamp: stamp.word(),
+            stamp: spot.stamp.word(),
             side: spot.side,
             here: true,
         },

@@ -13,6 +13,3 @@ pub use places::{Place, find_for_write};
 pub use reading::get;
 pub use snap_steps::Busy;
 pub use trying::try_get;
-
-#[cfg(test)]
-mod tests;

@@ -15,13 +15,12 @@ use snap_stamp::{Key, RowNo, Side, Stamp};
 use snap_steps::{Pass, Rows, load_epoch, note_birth, set_out};
 use std::sync::Wait;
 
-/// Where a key belongs, and the stamp of the place's row. While the row still has it, the key belongs there.
+/// Where a key belongs. Below a row, with that row's stamp: while the row still has it, the key belongs there.
 #[derive(Clone, Copy)]
 pub enum Place {
     /// The row has the key, and is of this epoch.
     Here {
         row: RowNo,
-        stamp: Stamp,
     },
     /// The row is of this epoch, and its link on the side was 0.
     Below {
@@ -37,8 +36,8 @@ pub enum Place {
     },
 }
 
-/// Finds the place of a key, for a pass in a write. It loads `epoch` and `done` first, notes the births of the rows on
-/// its way, and waits for nothing but its own tries.
+/// Finds the place of a key, for a pass in a write. It loads `epoch` and `done` first, notes births of rows on its way,
+/// and waits for nothing but its own tries.
 pub fn find_for_write<R: Wait>(rows: &Rows, rt: &R, pass: &mut Pass, key: Key) -> Place
     requires table { IsOf pass.old rows.now }
     requires writing { (made : Bool) × (counted : Bool) × (pass.old.view.stage ≡ Writing made counted) }
@@ -71,7 +70,7 @@ pub(crate) fn look_for_place(
     requires faces { spot.now.row ≡ 0 → spot.now.side ≡ Right }
     requires epoch { Among epoch pass.old.view.present }
     requires way { pass.old.view.reads ≡ On key (Standing spot.now.row spot.now.stamp spot.now.side) }
-    ensures { MatchResult result (λ p. Comes rows.now.rows pass.old pass.new key epoch p) (λ s. Goes rows.now.rows pass.old pass.new key epoch s.row s.stamp s.side) }
+    ensures { MatchResult result (λ p. Comes rows.now.rows pass.old pass.new key epoch spot.now p) (λ s. Goes rows.now.rows pass.old pass.new key epoch s.row s.stamp s.side) }
 {
     let child = child_of(rows, pass, key, spot);
     if child.is_none() {
@@ -87,7 +86,7 @@ pub(crate) fn look_for_place(
     }
     match next {
         Some(next) => Err(next),
-        None => Ok(Place::Here { row: child, stamp }),
+        None => Ok(Place::Here { row: child }),
     }
 }
 

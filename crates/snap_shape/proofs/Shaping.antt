@@ -1,5 +1,5 @@
 -- What an unlinking and a rotation leave of what their pass knows.
-use Rattle.std.proofs.Common.{◌≡◌, ◌≢◌, ◌∙◌, ◌⊎◌, ◌+◌, inl, inr, ℕ, zero, suc, List, refl, sym, ap, subst, arith, ⊎_elim, Bool, ◌||◌}
+use Rattle.std.proofs.Common.{◌≡◌, ◌≢◌, ◌∙◌, ◌⊎◌, ◌+◌, inl, inr, ℕ, zero, suc, List, [], ◌∷◌, ◌++◌, cond, refl, sym, ap, subst, arith, ⊎_elim, Bool, ◌||◌}
 use Rattle.snap_rule.specs.Debt.{IsListed}
 use Rattle.snap_rule.specs.declared.debt.Mark.{Mark}
 use Rattle.snap_shape.specs.Grips.{HasGrip, IsEdge, IsOfNow, edge_at, turn_at}
@@ -11,7 +11,7 @@ use Rattle.snap_stamp.specs.declared.layout.Field.TheVariants.{Birth, Key, Stamp
 use Rattle.snap_stamp.specs.declared.side.Side.{Side}
 use Rattle.snap_stamp.specs.declared.side.Side.TheVariants as sides
 use Rattle.snap_steps.specs.Counting.{Among}
-use Rattle.snap_steps.specs.Facts.{IsBorn, IsKnown}
+use Rattle.snap_steps.specs.Facts.{IsBorn, IsKnown, fact}
 use Rattle.snap_steps.specs.Seen.{Known, Becomes}
 use Rattle.snap_steps.specs.States.{link_field}
 use Rattle.snap_steps.specs.Steps.Changes.{AimsAt, IsTurn, TurnsFor, shrunk}
@@ -19,11 +19,17 @@ use Rattle.snap_steps.specs.Steps.Debts.{KnowsReason, aimed_at, key_at, listing}
 use Rattle.snap_steps.specs.Steps.Fields.{read, is_last}
 use Rattle.snap_steps.specs.Steps.Rotating.{HasStamps, cleared, lifted, lowered, turned}
 use Rattle.snap_steps.specs.Steps.Unlinking.{IsPair, spliced, unlinked}
+use Rattle.snap_steps.specs.declared.view.Fact.{Fact}
 use Rattle.snap_steps.specs.declared.view.View.{View}
 use Rattle.snap_shape.proofs.Touching.{None, One, Stays, grip_stays, link_no_birth, link_no_key, link_no_stamp, loaded, loaded_here, stays_on, stored, stored_here}
 
 abbrev known_as : Known → View → Known
 known_as k v = record { table = k.table; view = v }
+
+-- a link is no stamp
+no_refusal : (l : List Fact) (d : Side) (r x : ℕ) → cond (is_last (link_field d) x) (l ++ fact r (link_field d) x ∷ []) l ≡ l
+no_refusal l sides.Left r x = refl
+no_refusal l sides.Right r x = refl
 
 -- what a grip tells of a row but 0
 pub born : (v : View) (g : Grip) → HasGrip v g → IsOfNow v g.row → IsBorn v g.row
@@ -90,6 +96,7 @@ unlinks a b c parent row d only e f =
         reached = s.reached;
         whole = ap (λ (k : Known). k.view.doing) f;
         worn = λ h. ap (λ (k : Known). k.view.worn) f ∙ ap (λ (k : Known). k.view.worn) e ∙ h;
+        refused = ap (λ (k : Known). k.view.refused) f ∙ ap (λ (k : Known). k.view.refused) e;
         others = λ q g x n1 n2 n3 h. s.knows q g x (λ z. ⊎_elim (λ t. n2 t.0) (λ t. n1 t.0) z) h;
         grips = λ g ne h. grip_stays a c (λ q i. One row.row Stamp q i ⊎ One parent.row (link_field d) q i) g s
             (λ z. ⊎_elim (λ t. let q : Key ≡ Stamp = t.1 in cc) (λ t. link_no_key d (sym t.1)) z) (λ z. ⊎_elim (λ t. ne t.0) (λ t. link_no_stamp d (sym t.1)) z) (λ z. ⊎_elim (λ t. let q : Birth ≡ Stamp = t.1 in cc) (λ t. link_no_birth d (sym t.1)) z) h;
@@ -209,6 +216,7 @@ module _ (a b c d e f g : Known) (parent : Grip) (p : Side) (row : Grip) (side :
           reached = to_g.reached;
           whole = ap (λ (k : Known). k.view.doing) t.clear;
           worn = λ h. ap (λ (k : Known). k.view.worn) is6 ∙ ap (λ (z : Bool). z || is_last (link_field (other side)) middle) h;
+          refused = ap (λ (k : Known). k.view.refused) is6 ∙ no_refusal a.view.refused (other side) raised.row middle;
           others = λ q i x n1 n2 n3 h. to_g.knows q i x (λ z. elim z [ inl y ↦ n2 y.0 | inr y ↦ elim y [ inl w ↦ n2 w.0 | inr w ↦ elim w [ inl u ↦ n3 u.0 | inr u ↦ n1 u.0 ] ] ]) h;
           grips = grip;
         };

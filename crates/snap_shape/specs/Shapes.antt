@@ -24,6 +24,7 @@ pub record Keeps (old new : Known) (upper changed lower : ℕ) : Type 0 where
   pub reached : (r : ℕ) → times r old.view.reached ≤ times r new.view.reached
   pub whole : new.view.doing ≡ Nothing
   pub worn : old.view.worn ≡ true → new.view.worn ≡ true
+  pub refused : new.view.refused ≡ old.view.refused
   pub others : (q : ℕ) (f : Field) (x : ℕ) → q ≢ upper → q ≢ changed → q ≢ lower → IsKnown old.view.knows q f x → IsKnown new.view.knows q f x
   pub grips : (g : Grip) → g.row ≢ changed → HasGrip old.view g → HasGrip new.view g
 

@@ -18,7 +18,7 @@ use Rattle.snap_steps.specs.Steps.Locks.{unlocked}
 use Rattle.snap_steps.specs.declared.view.WordNote.{WordNote}
 use Rattle.snap_steps.specs.declared.view.WordNote.TheVariants.{Next, Done, Epoch}
 use Rattle.snap_steps.proofs.Totals.{total-append}
-use Rattle.snap_search.proofs.Working.{works_on}
+use Rattle.snap_search.proofs.Working.{grows_same, works_on}
 use Rattle.snap_update.specs.Answers.{GoesOn, RefusedFull, NeedsRow, PutsAbsent, older_births, is_older}
 use Rattle.snap_update.specs.Attempts.{Attempts, Brings, HasMetSo, KeepsTrying, RefusesOr, Tries}
 use Rattle.snap_update.specs.declared.attempt.Attempt.{Attempt}
@@ -179,6 +179,7 @@ full_works rows old new f =
       kept = λ r. omega arith;
       lasting = λ n g x h. h;
       present = λ x h. h;
+      refused = grows_same old.view.refused old.view.refused refl;
     } in subst (λ (k : Known). Works old k l) (sym f.2) whole
 
 pub refuses_put : (rows : ℕ) (old mid new : Known) (key value : ℕ) (t : Attempt) → FoundFull rows old mid → RefusesOr rows mid new key t → Attempts rows old new (Put key value) t

@@ -86,7 +86,7 @@ is_older key epoch Trouble = 0
 abbrev pub older_births : ℕ → ℕ → List WordNote → ℕ
 older_births key epoch l = total (is_older key epoch) l
 
--- why a write found no row: it is a put of an absent key, or it met more rows of earlier epochs on its way than it drew
+-- why a write found no row: it is a put of an absent key, or it noted rows of earlier epochs on its way more often than it drew one
 abbrev pub NeedsRow : Call → List Entry → ℕ → List ℕ → List WordNote → Type 0
 NeedsRow call seen epoch drawn notes = PutsAbsent call seen ⊎ (length drawn < older_births (call_key call) epoch notes)
 

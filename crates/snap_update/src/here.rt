@@ -13,22 +13,16 @@ ghost use Rattle.snap_update.specs.Attempts.{Attempts};
 ghost use Rattle.snap_update.specs.Held.{Holds, IsReady};
 
 use crate::attempt::Attempt;
-use crate::placed::epoch_of_place;
+use crate::placed::live_row;
 use snap_locks::{lock, unlock};
 use snap_model::Call;
-use snap_stamp::{Field, Key, RowNo, Stamp};
+use snap_stamp::{Field, Key, RowNo};
 use snap_steps::{Pass, Rows, confirm_absent, load_key, load_word, store_value};
 use std::sync::Wait;
 
-/// Locks the row, writes where it is the place still, and frees it.
-pub fn write_here<R: Wait>(
-    rows: &Rows,
-    rt: &R,
-    pass: &mut Pass,
-    call: &Call,
-    row: RowNo,
-    stamp: Stamp,
-) -> Attempt
+/// Locks the row, writes where it is in the tree still, and frees it. The row had the key, and keeps it for good: as long
+/// as it is in the tree it is the place of the key, whatever its stamp is.
+pub fn write_here<R: Wait>(rows: &Rows, rt: &R, pass: &mut Pass, call: &Call, row: RowNo) -> Attempt
     requires table { IsOf pass.old rows.now }
     requires row { (row ≢ 0) × (row ≤ rows.now.rows) }
     requires reached { 0 < times row pass.old.view.reached }
@@ -37,12 +31,12 @@ pub fn write_here<R: Wait>(
     ensures { Attempts rows.now.rows pass.old pass.new call.now result }
 {
     lock(rows, rt, pass, row);
-    let attempt = store_here(rows, pass, call, row, stamp);
+    let attempt = store_here(rows, pass, call, row);
     unlock(rows, pass, row);
     attempt
 }
 
-fn store_here(rows: &Rows, pass: &mut Pass, call: &Call, row: RowNo, stamp: Stamp) -> Attempt
+fn store_here(rows: &Rows, pass: &mut Pass, call: &Call, row: RowNo) -> Attempt
     requires table { IsOf pass.old rows.now }
     requires row { (row ≢ 0) × (row ≤ rows.now.rows) }
     requires reached { 0 < times row pass.old.view.reached }
@@ -54,7 +48,7 @@ fn store_here(rows: &Rows, pass: &mut Pass, call: &Call, row: RowNo, stamp: Stam
     requires value { FitsWord call.now }
     ensures { Attempts rows.now.rows pass.old pass.new call.now result }
 {
-    let Some(_) = epoch_of_place(rows, pass, row, stamp) else {
+    let Some(_) = live_row(rows, pass, row) else {
         return Attempt::Again;
     };
     let key = load_key(rows, pass, row);

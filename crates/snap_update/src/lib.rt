@@ -10,6 +10,3 @@ mod writing;
 
 pub use attempt::Attempt;
 pub use writing::write;
-
-#[cfg(test)]
-mod tests;

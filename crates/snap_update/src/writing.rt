@@ -18,7 +18,8 @@ use std::sync::Wait;
 
 /// Makes the entry of the call, and answers its reply: what the map had at the key. A removal of an absent key has
 /// its entry too. `Full` comes only where every row was handed out and the call needs one: it is a put of an absent
-/// key, or met more rows of earlier epochs than it drew. Then there is no entry. No row is held afterwards.
+/// key, or noted rows of earlier epochs on the key's way more often than it drew one. Then there is no entry. No row is
+/// held afterwards.
 pub fn write<R: Wait>(
     rows: &Rows,
     rt: &R,
@@ -48,7 +49,7 @@ fn try_write<R: Wait>(rows: &Rows, rt: &R, pass: &mut Pass, call: &Call) -> Atte
 {
     let key = key_of(call);
     match find_for_write(rows, rt, pass, key) {
-        Place::Here { row, stamp } => write_here(rows, rt, pass, call, row, stamp),
+        Place::Here { row } => write_here(rows, rt, pass, call, row),
         Place::Below { row, stamp, side } => write_below(rows, rt, pass, call, row, stamp, side),
         Place::Shared { row, stamp, side } => own_below(rows, rt, pass, key, row, stamp, side),
     }

@@ -1,5 +1,4 @@
 use Rattle.std.proofs.Common.{false}
-use Rattle.std.proofs.lemmas.Result.{MatchResult-weaker}
 use Rattle.snap_copy.proofs.own_child.Goals as goal
 
 pub own_at-requires-clause-writing : goal.own_at-requires-clause-writing
@@ -9,4 +8,4 @@ pub own_at-requires-clause-place : goal.own_at-requires-clause-place
 own_at-requires-clause-place g c = let p = c.requires.place in (p.0, p.1, (c.requires.writing, p.2))
 
 pub returns : goal.returns
-returns g c = MatchResult-weaker c.own_at.result c.own_at.ensures (λ _ o. o.owns) (λ _ l. (l.all, l.lacks))
+returns g c = c.own_at.ensures

@@ -1,5 +1,5 @@
 use Rattle.snap_repair.proofs.Mending.{read_looks}
-use Rattle.std.proofs.Common.{◌≡◌, ◌≢◌, rules, subst}
+use Rattle.std.proofs.Common.{◌≢◌, rules, subst}
 use Rattle.snap_shape.proofs.Touching.{loaded_here}
 use Rattle.snap_stamp.specs.declared.layout.Field.{Field}
 use Rattle.snap_steps.specs.Facts.{IsKnown}

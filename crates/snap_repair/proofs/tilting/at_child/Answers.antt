@@ -1,8 +1,8 @@
-use Rattle.std.proofs.Common.{◌∙◌, sym, subst, rules, inl}
-use Rattle.snap_repair.proofs.Inner.{aims_mends, stops_none, stops_worn, tries_after, worn_then}
+use Rattle.std.proofs.Common.{Bool, ◌∙◌, sym, subst, rules, inl}
+use Rattle.snap_repair.proofs.Inner.{aims_mends, stops_none, stops_worn, tries_after, worn_after, worn_out}
 use Rattle.snap_repair.proofs.Lowering.{child_edge, higher_by, leans_looks}
 use Rattle.snap_repair.proofs.Mending.{edge_looks, grip_looks, looks_on, mends_on}
-use Rattle.snap_repair.specs.Answers.{HasLastStamp}
+use Rattle.snap_repair.specs.Answers.{FindsWorn, Turns}
 use Rattle.snap_repair.specs.Lowering.{HasChild, IsHigher, Leans}
 use Rattle.snap_shape.specs.Grips.{IsTurning}
 use Rattle.snap_shape.specs.declared.grip.Turn.{Turn}
@@ -45,12 +45,13 @@ turn_row-requires-clause-turn g c =
 
 pub returns-then-turn_row : goal.returns-then-turn_row
 returns-then-turn_row g c =
-    let a = c.args.pass.now in let b = c.grip_of.new.pass in let d = c.look_at-look.new.pass in let s = looks_on a b d c.grip_of.ensures.looks c.look_at-look.ensures.looks in let e = c.turn_row.new.pass in let k = c.turn_row.ensures in
+    let a = c.args.pass.now in let b = c.grip_of.new.pass in let d = c.look_at-look.new.pass in let s = looks_on a b d c.grip_of.ensures.looks c.look_at-look.ensures.looks in let e = c.turn_row.new.pass in
+    let k = subst (λ (t : Bool). Turns d e c.turn_of-turn.result t) c.if-turn_row.true c.turn_row.ensures in
     stops_none c.args.rows.now.rows a e (mends_on a d e s.0.mends k.mends) (k.holds ∙ s.1)
 
 pub returns-else-turn_row : goal.returns-else-turn_row
 returns-else-turn_row g c =
-    let a = c.args.pass.now in let b = c.grip_of.new.pass in let d = c.look_at-look.new.pass in let s = looks_on a b d c.grip_of.ensures.looks c.look_at-look.ensures.looks in let e = c.turn_row.new.pass in let k = c.turn_row.ensures in
-    let n = c.args.edge.now.child.row in
-    let last = subst (λ (t : Turn). HasLastStamp e.view t.row.row) c.turn_of-turn.ensures (k.worn c.if-turn_row.false) in
-    stops_worn c.args.rows.now.rows a e c.args.edge.now.child.row (mends_on a d e s.0.mends k.mends) (k.holds ∙ s.1) (worn_then a d e n s.0.mends (inl (c.args.higher, leans_looks a d n c.args.higher s c.requires.leans)) k.mends last)
+    let a = c.args.pass.now in let b = c.grip_of.new.pass in let d = c.look_at-look.new.pass in let s = looks_on a b d c.grip_of.ensures.looks c.look_at-look.ensures.looks in let e = c.turn_row.new.pass in let n = c.args.edge.now.child.row in
+    let found = subst (λ (t : Turn). FindsWorn d e t.row.row) c.turn_of-turn.ensures (subst (λ (t : Bool). Turns d e c.turn_of-turn.result t) c.if-turn_row.false c.turn_row.ensures) in
+    let w = worn_after a d e n s found in
+    stops_worn c.args.rows.now.rows a e n c.of.result c.of.ensures w.looks.1 (worn_out a e n w (inl (c.args.higher, leans_looks a e n c.args.higher w.looks c.requires.leans))) w.looks.0.mends

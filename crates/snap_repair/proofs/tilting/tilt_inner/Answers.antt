@@ -1,5 +1,5 @@
 use Rattle.std.proofs.Common.{◌≡◌, ◌∙◌, rules, sym, subst, ap, refl, ◌∷◌, []}
-use Rattle.snap_repair.proofs.Lowering.{edge_owned, higher_owned, inner_tilt, leans_past, times_none, tries_locked}
+use Rattle.snap_repair.proofs.Lowering.{edge_owned, higher_owned, inner_tilt, lacks_tries, leans_past, times_none, tries_locked}
 use Rattle.snap_repair.specs.Lowering.{IsHigher, IsTilt}
 use Rattle.snap_stamp.specs.declared.side.Side.{Side}
 use Rattle.snap_steps.specs.Counting.{times}
@@ -40,3 +40,6 @@ returns g c =
     let a = c.args.pass.now in let b = c.own_lower.new.pass in let d = c.lock.new.pass in let t = c.args.turn.now in let i = c.in-Ok.inner in
     let free : times i a.view.holds ≡ 0 = ap (times i) c.requires.three ∙ times_none i t.raised.row (t.row.row ∷ t.parent.row ∷ []) (search rules) (times_none i t.row.row (t.parent.row ∷ []) (search rules) (times_none i t.parent.row [] (search rules) refl)) in
     tries_locked c.args.rows.now.rows a b d c.at_inner-why.new.pass c.unlock.new.pass i c.at_inner-why.result c.in-Ok.ensures.firm.mends c.in-Ok.ensures.holds free c.lock.ensures c.at_inner-why.ensures c.unlock.ensures
+
+pub returns-in-Err : goal.returns-in-Err
+returns-in-Err g c = lacks_tries c.args.rows.now.rows c.in-Err.full.rows c.args.pass.now c.own_lower.new.pass c.args.turn.now.raised.row c.other-inward.result c.of.result c.of.ensures c.in-Err.ensures

@@ -1,31 +1,43 @@
-use Rattle.std.proofs.Common.{◌≡◌, ◌∙◌, sym, subst, ap, rules, inl, inr}
-use Rattle.snap_repair.proofs.Inner.{dropped_edge, mending_on, ready_again, rotation_mends, stops_none, stops_worn, worn_here, worn_then}
-use Rattle.snap_repair.proofs.Lifting.{mends_itself}
+use Rattle.std.proofs.Common.{◌≡◌, ◌∙◌, ◌<◌, ℕ, Option, None, MatchOption, sym, subst, ap, rules, inr}
+use Rattle.snap_repair.proofs.Inner.{dropped_edge, mending_on, ready_again, rotation_mends, stops_none, stops_worn}
 use Rattle.snap_repair.proofs.Mending.{edge_looks, mends_on}
-use Rattle.snap_repair.specs.Answers.{HasLastStamp}
+use Rattle.snap_repair.specs.Answers.{IsWornOut}
 use Rattle.snap_repair.specs.Raising.{Lifts, TurnsNear}
 use Rattle.snap_shape.specs.Grips.{IsEdge, IsTurning, edge_at, turn_at}
 use Rattle.snap_shape.specs.Shapes.{Rotates, later}
 use Rattle.snap_shape.specs.declared.grip.Grip.{Grip}
 use Rattle.snap_shape.specs.declared.grip.Turn.{Turn}
 use Rattle.snap_stamp.specs.Sides.{other}
+use Rattle.snap_stamp.specs.Stamps.{count_of, last_count}
 use Rattle.snap_stamp.specs.declared.side.Side.{Side}
 use Rattle.snap_repair.proofs.tilting.turn_twice.Goals as goal
 
-pub returns-then-is_worn_out : goal.returns-then-is_worn_out
-returns-then-is_worn_out c =
-    let t = c.args.turn.now in let raised = c.args.raised.now in let q = c.requires.turn in let a = c.args.pass.now in let e = c.is_worn_out.new.pass in let s = c.is_worn_out.ensures.looks in
-    stops_worn c.args.rows.now.rows a e t.raised.row s.0.mends s.1 (worn_then a a e t.raised.row (mends_itself a) (inr (t.row.row, t.side, c.requires.leans, q.lower.leads, c.requires.higher)) s.0.mends (worn_here a e t.raised s q.lower.below c.if-is_worn_out.ensures.worn))
+pub returns-in-Some : goal.returns-in-Some
+returns-in-Some c =
+    let s = c.worn_row.ensures.looks in stops_worn c.args.rows.now.rows c.args.pass.now c.worn_row.new.pass c.in-Some.worn c.of.result c.of.ensures s.1 c.in-Some.ensures.worn s.0.mends
+
+pub rotate-lowered-requires-clause-count : goal.rotate-lowered-requires-clause-count
+rotate-lowered-requires-clause-count c =
+    let t = c.args.turn.now in let raised = c.args.raised.now in let a = c.args.pass.now in let none : c.worn_row.result ≡ None = search rules in
+    let is : c.turn_of-first.result ≡ turn_at t.row t.side t.raised (other t.side) raised = c.turn_of-first.ensures ∙ ap (λ (d : Side). turn_at t.row t.side t.raised d raised) c.other.ensures in
+    let few = subst (λ (o : Option ℕ). MatchOption o ((count_of t.raised.stamp < last_count) × (count_of t.row.stamp < last_count)) (λ r. IsWornOut a c.worn_row.new.pass c.worn_row.new.pass r)) none c.worn_row.ensures.worn in
+    subst (λ (x : Turn). count_of x.row.stamp < last_count) (sym is) few.0
+
+pub lower_row-requires-clause-count : goal.lower_row-requires-clause-count
+lower_row-requires-clause-count c =
+    let t = c.args.turn.now in let a = c.args.pass.now in let none : c.worn_row.result ≡ None = search rules in
+    let few = subst (λ (o : Option ℕ). MatchOption o ((count_of t.raised.stamp < last_count) × (count_of t.row.stamp < last_count)) (λ r. IsWornOut a c.worn_row.new.pass c.worn_row.new.pass r)) none c.worn_row.ensures.worn in
+    subst (λ (x : Turn). count_of x.row.stamp < last_count) (sym c.turn_of-second.ensures) few.1
 
 pub rotate-lowered-requires-clause-turn : goal.rotate-lowered-requires-clause-turn
 rotate-lowered-requires-clause-turn c =
-    let t = c.args.turn.now in let raised = c.args.raised.now in let q = c.requires.turn in let a = c.args.pass.now in let e = c.is_worn_out.new.pass in let s = c.is_worn_out.ensures.looks in
+    let t = c.args.turn.now in let raised = c.args.raised.now in let q = c.requires.turn in let a = c.args.pass.now in let e = c.worn_row.new.pass in let s = c.worn_row.ensures.looks in
     let is : c.turn_of-first.result ≡ turn_at t.row t.side t.raised (other t.side) raised = c.turn_of-first.ensures ∙ ap (λ (d : Side). turn_at t.row t.side t.raised d raised) c.other.ensures in
     subst (IsTurning e.view) (sym is) (record { upper = edge_looks a e t.row t.raised t.side s q.lower; lower = edge_looks a e t.raised raised (other t.side) s c.requires.inner; apart = c.requires.apart.0 })
 
 pub drop_lowered-requires-clause-mending : goal.drop_lowered-requires-clause-mending
 drop_lowered-requires-clause-mending c =
-    let t = c.args.turn.now in let raised = c.args.raised.now in let q = c.requires.turn in let a = c.args.pass.now in let e = c.is_worn_out.new.pass in let s = c.is_worn_out.ensures.looks in let f = c.rotate-lowered.new.pass in
+    let t = c.args.turn.now in let raised = c.args.raised.now in let q = c.requires.turn in let a = c.args.pass.now in let e = c.worn_row.new.pass in let s = c.worn_row.ensures.looks in let f = c.rotate-lowered.new.pass in
     let is : c.turn_of-first.result ≡ turn_at t.row t.side t.raised (other t.side) raised = c.turn_of-first.ensures ∙ ap (λ (d : Side). turn_at t.row t.side t.raised d raised) c.other.ensures in
     let r : Rotates e f (turn_at t.row t.side t.raised (other t.side) raised) = subst (Rotates e f) is c.rotate-lowered.ensures.turned in
     let row : c.rotate-lowered.result ≡ later t.raised = c.rotate-lowered.ensures.row ∙ ap (λ (x : Turn). later x.row) is in
@@ -33,7 +45,7 @@ drop_lowered-requires-clause-mending c =
 
 pub drop_lowered-requires-clause-edge : goal.drop_lowered-requires-clause-edge
 drop_lowered-requires-clause-edge c =
-    let t = c.args.turn.now in let raised = c.args.raised.now in let q = c.requires.turn in let a = c.args.pass.now in let e = c.is_worn_out.new.pass in let s = c.is_worn_out.ensures.looks in let f = c.rotate-lowered.new.pass in
+    let t = c.args.turn.now in let raised = c.args.raised.now in let q = c.requires.turn in let a = c.args.pass.now in let e = c.worn_row.new.pass in let s = c.worn_row.ensures.looks in let f = c.rotate-lowered.new.pass in
     let is : c.turn_of-first.result ≡ turn_at t.row t.side t.raised (other t.side) raised = c.turn_of-first.ensures ∙ ap (λ (d : Side). turn_at t.row t.side t.raised d raised) c.other.ensures in
     let r : Rotates e f (turn_at t.row t.side t.raised (other t.side) raised) = subst (Rotates e f) is c.rotate-lowered.ensures.turned in
     let row : c.rotate-lowered.result ≡ later t.raised = c.rotate-lowered.ensures.row ∙ ap (λ (x : Turn). later x.row) is in
@@ -41,7 +53,7 @@ drop_lowered-requires-clause-edge c =
 
 pub returns-then-not-drop_lowered : goal.returns-then-not-drop_lowered
 returns-then-not-drop_lowered c =
-    let t = c.args.turn.now in let raised = c.args.raised.now in let q = c.requires.turn in let a = c.args.pass.now in let e = c.is_worn_out.new.pass in let s = c.is_worn_out.ensures.looks in let f = c.rotate-lowered.new.pass in
+    let t = c.args.turn.now in let raised = c.args.raised.now in let q = c.requires.turn in let a = c.args.pass.now in let e = c.worn_row.new.pass in let s = c.worn_row.ensures.looks in let f = c.rotate-lowered.new.pass in
     let is : c.turn_of-first.result ≡ turn_at t.row t.side t.raised (other t.side) raised = c.turn_of-first.ensures ∙ ap (λ (d : Side). turn_at t.row t.side t.raised d raised) c.other.ensures in
     let r : Rotates e f (turn_at t.row t.side t.raised (other t.side) raised) = subst (Rotates e f) is c.rotate-lowered.ensures.turned in
     let row : c.rotate-lowered.result ≡ later t.raised = c.rotate-lowered.ensures.row ∙ ap (λ (x : Turn). later x.row) is in let h = c.drop_lowered.new.pass in
@@ -49,9 +61,9 @@ returns-then-not-drop_lowered c =
     let z = ready_again a e f h t raised c.requires.mending.whole s q c.requires.inner c.requires.apart.0 c.requires.apart.1 r l in
     stops_none c.args.rows.now.rows a h z.mends z.holds
 
-pub turn_row-requires-clause-mending : goal.turn_row-requires-clause-mending
-turn_row-requires-clause-mending c =
-    let t = c.args.turn.now in let raised = c.args.raised.now in let q = c.requires.turn in let a = c.args.pass.now in let e = c.is_worn_out.new.pass in let s = c.is_worn_out.ensures.looks in let f = c.rotate-lowered.new.pass in
+pub lower_row-requires-clause-mending : goal.lower_row-requires-clause-mending
+lower_row-requires-clause-mending c =
+    let t = c.args.turn.now in let raised = c.args.raised.now in let q = c.requires.turn in let a = c.args.pass.now in let e = c.worn_row.new.pass in let s = c.worn_row.ensures.looks in let f = c.rotate-lowered.new.pass in
     let is : c.turn_of-first.result ≡ turn_at t.row t.side t.raised (other t.side) raised = c.turn_of-first.ensures ∙ ap (λ (d : Side). turn_at t.row t.side t.raised d raised) c.other.ensures in
     let r : Rotates e f (turn_at t.row t.side t.raised (other t.side) raised) = subst (Rotates e f) is c.rotate-lowered.ensures.turned in
     let row : c.rotate-lowered.result ≡ later t.raised = c.rotate-lowered.ensures.row ∙ ap (λ (x : Turn). later x.row) is in let h = c.drop_lowered.new.pass in
@@ -59,9 +71,9 @@ turn_row-requires-clause-mending c =
     let z = ready_again a e f h t raised c.requires.mending.whole s q c.requires.inner c.requires.apart.0 c.requires.apart.1 r l in
     mending_on a h z.mends c.requires.mending
 
-pub turn_row-requires-clause-turn : goal.turn_row-requires-clause-turn
-turn_row-requires-clause-turn c =
-    let t = c.args.turn.now in let raised = c.args.raised.now in let q = c.requires.turn in let a = c.args.pass.now in let e = c.is_worn_out.new.pass in let s = c.is_worn_out.ensures.looks in let f = c.rotate-lowered.new.pass in
+pub lower_row-requires-clause-turn : goal.lower_row-requires-clause-turn
+lower_row-requires-clause-turn c =
+    let t = c.args.turn.now in let raised = c.args.raised.now in let q = c.requires.turn in let a = c.args.pass.now in let e = c.worn_row.new.pass in let s = c.worn_row.ensures.looks in let f = c.rotate-lowered.new.pass in
     let is : c.turn_of-first.result ≡ turn_at t.row t.side t.raised (other t.side) raised = c.turn_of-first.ensures ∙ ap (λ (d : Side). turn_at t.row t.side t.raised d raised) c.other.ensures in
     let r : Rotates e f (turn_at t.row t.side t.raised (other t.side) raised) = subst (Rotates e f) is c.rotate-lowered.ensures.turned in
     let row : c.rotate-lowered.result ≡ later t.raised = c.rotate-lowered.ensures.row ∙ ap (λ (x : Turn). later x.row) is in let h = c.drop_lowered.new.pass in
@@ -69,9 +81,9 @@ turn_row-requires-clause-turn c =
     let z = ready_again a e f h t raised c.requires.mending.whole s q c.requires.inner c.requires.apart.0 c.requires.apart.1 r l in
     subst (IsTurning h.view) (sym c.turn_of-second.ensures) z.turning
 
-pub turn_row-requires-clause-aims : goal.turn_row-requires-clause-aims
-turn_row-requires-clause-aims c =
-    let t = c.args.turn.now in let raised = c.args.raised.now in let q = c.requires.turn in let a = c.args.pass.now in let e = c.is_worn_out.new.pass in let s = c.is_worn_out.ensures.looks in let f = c.rotate-lowered.new.pass in
+pub lower_row-requires-clause-aims : goal.lower_row-requires-clause-aims
+lower_row-requires-clause-aims c =
+    let t = c.args.turn.now in let raised = c.args.raised.now in let q = c.requires.turn in let a = c.args.pass.now in let e = c.worn_row.new.pass in let s = c.worn_row.ensures.looks in let f = c.rotate-lowered.new.pass in
     let is : c.turn_of-first.result ≡ turn_at t.row t.side t.raised (other t.side) raised = c.turn_of-first.ensures ∙ ap (λ (d : Side). turn_at t.row t.side t.raised d raised) c.other.ensures in
     let r : Rotates e f (turn_at t.row t.side t.raised (other t.side) raised) = subst (Rotates e f) is c.rotate-lowered.ensures.turned in
     let row : c.rotate-lowered.result ≡ later t.raised = c.rotate-lowered.ensures.row ∙ ap (λ (x : Turn). later x.row) is in let h = c.drop_lowered.new.pass in
@@ -79,23 +91,12 @@ turn_row-requires-clause-aims c =
     let z = ready_again a e f h t raised c.requires.mending.whole s q c.requires.inner c.requires.apart.0 c.requires.apart.1 r l in
     subst (λ (x : Turn). TurnsNear h.view x.parent.row x.row.row x.raised.row raised.key) (sym c.turn_of-second.ensures) (inr (z.turning.lower.below.is_key, c.drop_lowered.ensures.to_do (search rules)))
 
-pub returns-then-turn_row : goal.returns-then-turn_row
-returns-then-turn_row c =
-    let t = c.args.turn.now in let raised = c.args.raised.now in let q = c.requires.turn in let a = c.args.pass.now in let e = c.is_worn_out.new.pass in let s = c.is_worn_out.ensures.looks in let f = c.rotate-lowered.new.pass in
+pub returns : goal.returns
+returns c =
+    let t = c.args.turn.now in let raised = c.args.raised.now in let q = c.requires.turn in let a = c.args.pass.now in let e = c.worn_row.new.pass in let s = c.worn_row.ensures.looks in let f = c.rotate-lowered.new.pass in
     let is : c.turn_of-first.result ≡ turn_at t.row t.side t.raised (other t.side) raised = c.turn_of-first.ensures ∙ ap (λ (d : Side). turn_at t.row t.side t.raised d raised) c.other.ensures in
     let r : Rotates e f (turn_at t.row t.side t.raised (other t.side) raised) = subst (Rotates e f) is c.rotate-lowered.ensures.turned in
     let row : c.rotate-lowered.result ≡ later t.raised = c.rotate-lowered.ensures.row ∙ ap (λ (x : Turn). later x.row) is in let h = c.drop_lowered.new.pass in
     let l : Lifts f h raised (later t.raised) = subst (Lifts f h raised) row c.drop_lowered.ensures.keeps in
-    let z = ready_again a e f h t raised c.requires.mending.whole s q c.requires.inner c.requires.apart.0 c.requires.apart.1 r l in let k = c.turn_row.ensures in
-    stops_none c.args.rows.now.rows a c.turn_row.new.pass (mends_on a h c.turn_row.new.pass z.mends k.mends) (k.holds ∙ z.holds)
-
-pub returns-else-turn_row : goal.returns-else-turn_row
-returns-else-turn_row c =
-    let t = c.args.turn.now in let raised = c.args.raised.now in let q = c.requires.turn in let a = c.args.pass.now in let e = c.is_worn_out.new.pass in let s = c.is_worn_out.ensures.looks in let f = c.rotate-lowered.new.pass in
-    let is : c.turn_of-first.result ≡ turn_at t.row t.side t.raised (other t.side) raised = c.turn_of-first.ensures ∙ ap (λ (d : Side). turn_at t.row t.side t.raised d raised) c.other.ensures in
-    let r : Rotates e f (turn_at t.row t.side t.raised (other t.side) raised) = subst (Rotates e f) is c.rotate-lowered.ensures.turned in
-    let row : c.rotate-lowered.result ≡ later t.raised = c.rotate-lowered.ensures.row ∙ ap (λ (x : Turn). later x.row) is in let h = c.drop_lowered.new.pass in
-    let l : Lifts f h raised (later t.raised) = subst (Lifts f h raised) row c.drop_lowered.ensures.keeps in
-    let z = ready_again a e f h t raised c.requires.mending.whole s q c.requires.inner c.requires.apart.0 c.requires.apart.1 r l in let k = c.turn_row.ensures in
-    let n = c.turn_row.new.pass in let last = subst (λ (x : Turn). HasLastStamp n.view x.row.row) c.turn_of-second.ensures (k.worn c.if-turn_row.false) in let on = mends_on a h n z.mends k.mends in
-    stops_worn c.args.rows.now.rows a n t.row.row (mends_on a h n z.mends k.mends) (k.holds ∙ z.holds) (worn_then a a n t.row.row (mends_itself a) (inl (t.side, c.requires.leans)) on last)
+    let z = ready_again a e f h t raised c.requires.mending.whole s q c.requires.inner c.requires.apart.0 c.requires.apart.1 r l in let k = c.lower_row.ensures in
+    stops_none c.args.rows.now.rows a c.lower_row.new.pass (mends_on a h c.lower_row.new.pass z.mends k.mends) (k.holds ∙ z.holds)

@@ -21,8 +21,8 @@ loaded old a b d row stamp e key word s k v = works_on old a d (Epoch e ∷ []) 
 pub returns-then-word-eq0 : goal.returns-then-word-eq0
 returns-then-word-eq0 c =
     let old : Known = c.args.pass.now in let d : Known = c.load_word-word.new.pass in let new : Known = c.confirm_absent.new.pass in
-    let epoch : ℕ = c.in-Some.field-0 in
-    let works = loaded old c.epoch_of_place.new.pass c.load_key-key.new.pass d c.args.row c.args.stamp epoch c.load_key-key.result c.load_word-word.result c.in-Some.ensures c.load_key-key.ensures.pass c.load_word-word.ensures.pass in
+    let epoch : ℕ = c.in-Some.field-0.epoch in
+    let works = loaded old c.live_row.new.pass c.load_key-key.new.pass d c.args.row c.in-Some.field-0.stamp epoch c.load_key-key.result c.load_word-word.result c.in-Some.ensures c.load_key-key.ensures.pass c.load_word-word.ensures.pass in
     let same : c.in-Remove.wanted ≡ c.load_key-key.result = search rules in
     let is : c.args.call.now ≡ Remove c.load_key-key.result = c.in-Remove.is ∙ ap (λ (k : ℕ). Remove k) same in
     let e = c.confirm_absent.ensures in
@@ -31,8 +31,8 @@ returns-then-word-eq0 c =
 pub returns-else-wanted-key : goal.returns-else-wanted-key
 returns-else-wanted-key c =
     let old : Known = c.args.pass.now in let d : Known = c.load_word-word.new.pass in let new : Known = c.store_value.new.pass in
-    let epoch : ℕ = c.in-Some.field-0 in
-    let works = loaded old c.epoch_of_place.new.pass c.load_key-key.new.pass d c.args.row c.args.stamp epoch c.load_key-key.result c.load_word-word.result c.in-Some.ensures c.load_key-key.ensures.pass c.load_word-word.ensures.pass in
+    let epoch : ℕ = c.in-Some.field-0.epoch in
+    let works = loaded old c.live_row.new.pass c.load_key-key.new.pass d c.args.row c.in-Some.field-0.stamp epoch c.load_key-key.result c.load_word-word.result c.in-Some.ensures c.load_key-key.ensures.pass c.load_word-word.ensures.pass in
     let same : c.in-Put.wanted ≡ c.load_key-key.result = search rules in
     let is : c.args.call.now ≡ Put c.load_key-key.result c.in-Put.value = c.in-Put.is ∙ ap (λ (k : ℕ). Put k c.in-Put.value) same in
     let e = c.store_value.ensures.entry in
@@ -44,8 +44,8 @@ returns-else-wanted-key c =
 pub returns-else-word-eq0 : goal.returns-else-word-eq0
 returns-else-word-eq0 c =
     let old : Known = c.args.pass.now in let d : Known = c.load_word-word.new.pass in let new : Known = c.store_value-in-Remove.new.pass in
-    let epoch : ℕ = c.in-Some.field-0 in
-    let works = loaded old c.epoch_of_place.new.pass c.load_key-key.new.pass d c.args.row c.args.stamp epoch c.load_key-key.result c.load_word-word.result c.in-Some.ensures c.load_key-key.ensures.pass c.load_word-word.ensures.pass in
+    let epoch : ℕ = c.in-Some.field-0.epoch in
+    let works = loaded old c.live_row.new.pass c.load_key-key.new.pass d c.args.row c.in-Some.field-0.stamp epoch c.load_key-key.result c.load_word-word.result c.in-Some.ensures c.load_key-key.ensures.pass c.load_word-word.ensures.pass in
     let same : c.in-Remove.wanted ≡ c.load_key-key.result = search rules in
     let is : c.args.call.now ≡ Remove c.load_key-key.result = c.in-Remove.is ∙ ap (λ (k : ℕ). Remove k) same in
     let e = c.store_value-in-Remove.ensures.entry in

@@ -16,12 +16,12 @@ own_child-requires-clause-place g c =
 
 pub returns-in-Ok : goal.returns-in-Ok
 returns-in-Ok g c =
-    brings_own c.args.rows.now.rows c.args.pass.now c.load_word.new.pass c.own_child.new.pass c.args.key c.args.row c.args.side c.in-Ok.field-0 (Epoch c.in-Some.field-0 ∷ []) (looked c.args.pass.now c.epoch_of_place.new.pass c.load_word.new.pass c.args.row c.args.stamp c.in-Some.field-0 c.load_word.result c.link_of.result c.in-Some.ensures c.load_word.ensures.pass) c.in-Ok.ensures
+    brings_own c.args.rows.now.rows c.args.pass.now c.load_word.new.pass c.own_child.new.pass c.args.key c.args.row c.args.side c.in-Ok.field-0 (Epoch c.in-Some.field-0 ∷ []) (looked c.args.pass.now c.epoch_of_place.new.pass c.load_word.new.pass c.args.row c.args.stamp c.in-Some.field-0 c.load_word.result c.link_of.result c.in-Some.ensures c.load_word.ensures.pass) c.in-Ok.ensures.owns
 
 pub returns-in-Err : goal.returns-in-Err
 returns-in-Err g c =
-    let t = brings_none c.args.rows.now.rows c.args.pass.now c.load_word.new.pass c.own_child.new.pass c.args.key c.args.row c.args.side (Epoch c.in-Some.field-0 ∷ []) (looked c.args.pass.now c.epoch_of_place.new.pass c.load_word.new.pass c.args.row c.args.stamp c.in-Some.field-0 c.load_word.result c.link_of.result c.in-Some.ensures c.load_word.ensures.pass) c.in-Err.ensures.1 in
-    (c.in-Err.ensures.0, t.0, t.1, t.2)
+    let t = brings_none c.args.rows.now.rows c.args.pass.now c.load_word.new.pass c.own_child.new.pass c.args.key c.args.row c.args.side (Epoch c.in-Some.field-0 ∷ []) (looked c.args.pass.now c.epoch_of_place.new.pass c.load_word.new.pass c.args.row c.args.stamp c.in-Some.field-0 c.load_word.result c.link_of.result c.in-Some.ensures c.load_word.ensures.pass) c.in-Err.ensures.lacks in
+    (c.in-Err.ensures.all, t.0, t.1, t.2)
 
 pub returns-in_default : goal.returns-in_default
 returns-in_default g c = let l = Epoch c.in_default.ensures.epoch ∷ [] in ([], l, goes_works c.args.pass.now c.epoch_of_place.new.pass c.args.key l c.in_default.ensures.works, omega arith)

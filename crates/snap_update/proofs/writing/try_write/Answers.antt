@@ -6,7 +6,7 @@ use Rattle.snap_update.proofs.Trying.{tries_after, tries_shared}
 use Rattle.snap_update.proofs.writing.try_write.Goals as goal
 
 pub returns-in-Here : goal.returns-in-Here
-returns-in-Here g c = let p = Here c.in-Here.row c.in-Here.stamp in
+returns-in-Here g c = let p = Here c.in-Here.row in
     tries_after c.args.rows.now.rows c.args.pass.now c.find_for_write.new.pass c.write_here.new.pass p c.args.call.now c.write_here.result (subst (λ (k : ℕ). Finds c.args.rows.now.rows c.args.pass.now c.find_for_write.new.pass k p) c.key_of-key.ensures c.in-Here.ensures) c.write_here.ensures
 
 pub returns-in-Below : goal.returns-in-Below
