@@ -96,13 +96,13 @@ abbrev pub TopAt : Tree → ℕ → RowCopy → Type 0
 TopAt whole row copy = (t : Tree) → IsWithin t whole → root t ≡ row → HasTop t copy
 
 module _ (whole t : Tree) (copy : RowCopy) (within : IsWithin t whole) (top : HasTop t copy) where
-  below_top : IsWithin top.left whole × IsWithin top.right whole
+  abbrev below_top : IsWithin top.left whole × IsWithin top.right whole
   below_top = within_below whole top.top top.left top.right (subst (λ (z : Tree). IsWithin z whole) top.is within)
 
-  pub has_left : HasTree whole copy.left
+  unfoldable pub has_left : HasTree whole copy.left
   has_left = record { tree = top.left; within = below_top.0; at = sym top.copied.left }
 
-  pub has_right : HasTree whole copy.right
+  unfoldable pub has_right : HasTree whole copy.right
   has_right = record { tree = top.right; within = below_top.1; at = sym top.copied.right }
 
 module _ (whole : Tree) (row levels : ℕ) (copy : RowCopy) (tops : TopAt whole row copy) where

@@ -10,3 +10,6 @@ pub mod Levels
 pub mod Counts
 pub mod Blanks
 pub mod Sizes
+pub mod AheadRows
+pub mod Looking
+pub mod Depths

@@ -1,5 +1,5 @@
 -- What the pair that is nearest to a key on one side tells of the map.
-use Rattle.std.proofs.Common.{◌≡◌, ℕ, ◌+◌, ◌-◌, ◌<◌, ◌≤◌, ◌^◌, true, ltb, leb, [], ◌∷◌, ◌++◌, Option, Some, None, refl, sym, ap, ◌∙◌, subst, arith, ◌&&◌}
+use Rattle.std.proofs.Common.{◌≡◌, ℕ, ◌+◌, ◌<◌, ◌≤◌, ◌^◌, true, ltb, leb, [], ◌∷◌, ◌++◌, Option, Some, None, refl, sym, ap, ◌∙◌, subst, arith, ◌&&◌}
 use Rattle.std.proofs.lemmas.Bool.{le-leb}
 use Rattle.std.proofs.lemmas.Bool.Decides.{nat_tests}
 use Rattle.std.proofs.lemmas.List.{reverse-append}
@@ -13,8 +13,11 @@ use Rattle.snap_stamp.specs.declared.side.Side.{Side}
 use Rattle.snap_stamp.specs.declared.side.Side.TheVariants.{Left, Right}
 use Rattle.snap_steps.specs.Clones.{Cloned, image, IsCloneOf}
 use Rattle.snap_view.specs.Nearest.{Reaches, reaches, IsNearestPair, IsBehind, on}
-use Rattle.snap_view.specs.Walks.{range_below}
 use Rattle.snap_view.proofs.Ranges.{Rise, pairs_rise, none_pass, no_key_passes, all_pass, first_passes, last_passes}
+
+-- the pairs with low ≤ key < until
+abbrev pub range_below : Pairs → ℕ → ℕ → Pairs
+range_below m low until = filter (λ p. leb low p.0 && ltb p.0 until) m
 
 -- the pairs of a clone rise
 pub clone_rises : (c : Cloned) → IsCloneOf c.base (image c) → Rise 0 (2 ^ 64) (after c.base)
@@ -35,14 +38,11 @@ within_bounds low high k e = grind (arith, nat_tests)
 passing : (low high k : ℕ) → low ≤ k → k ≤ high → (leb low k && leb k high) ≡ true
 passing low high k l h = grind (arith, nat_tests)
 
-pub empty_range : (m : Pairs) (low high : ℕ) → high < low → range m low high ≡ []
-empty_range m low high l = no_key_passes (λ k. leb low k && leb k high) m (λ k. grind (arith, nat_tests))
-
 pub empty_below : (m : Pairs) (low until : ℕ) → until ≤ low → range_below m low until ≡ []
 empty_below m low until l = no_key_passes (λ k. leb low k && ltb k until) m (λ k. grind (arith, nat_tests))
 
-pub below_is : (m : Pairs) (low until : ℕ) → low < until → range m low (until - 1) ≡ range_below m low until
-below_is m low until l = filter_same (λ p. leb low p.0 && leb p.0 (until - 1)) (λ p. leb low p.0 && ltb p.0 until) (λ p. grind (arith, nat_tests)) m
+pub below_is : (m : Pairs) (low high until : ℕ) → until ≡ high + 1 → range m low high ≡ range_below m low until
+below_is m low high until e = filter_same (λ p. leb low p.0 && leb p.0 high) (λ p. leb low p.0 && ltb p.0 until) (λ p. grind (arith, nat_tests)) m
 
 pub none_lower : (m : Pairs) (key : ℕ) → key ≡ 0 → None ≡ lower m key
 none_lower m key z = sym (ap last_pair (no_key_passes (λ k. ltb k key) m (λ k. grind (arith, nat_tests))))
@@ -103,6 +103,10 @@ module _ (m : Pairs) (rise : Rise 0 (2 ^ 64) m) where
       ∙ ap (λ (o : Option ℕ). filter (λ x. (leb low x.0 && leb x.0 high) && ltb x.0 p.0) m ++ entry p.0 o) near.is
       ∙ ap (λ (x : Pairs). x ++ (p ∷ [])) (filter_same (λ x. (leb low x.0 && leb x.0 high) && ltb x.0 p.0) (λ x. leb low x.0 && ltb x.0 p.0) (λ x. let from = near.lies in grind (arith, nat_tests)) m))
       ∙ reverse-append (range_below m low p.0) (p ∷ [])
+
+  -- from past all keys
+  pub empty_above : (low high : ℕ) → low ≡ 2 ^ 64 → range m low high ≡ []
+  empty_above low high e = none_pass (λ k. leb low k && leb k high) 0 (2 ^ 64) m rise (λ k b h. absurd (omega (arith, e, (within_bounds low high k h).0)))
 
   -- the nearest pair lies past the range
   pub past_range : (low high : ℕ) (p : ℕ × ℕ) → IsNearestPair (at m) Right low (Some p) → high < p.0 → range m low high ≡ []

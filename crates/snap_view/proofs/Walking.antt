@@ -1,40 +1,44 @@
 -- The steps of a walk through the pairs of a clone.
-use Rattle.std.proofs.Common.{◌≡◌, ℕ, ◌+◌, ◌<◌, ◌≤◌, false, cond, [], ◌∷◌, Some, None, sym, ap, ◌∙◌}
+use Rattle.std.proofs.Common.{◌≡◌, ℕ, ◌+◌, ◌^◌, arith, true, false, [], ◌∷◌, Option, Some, None, sym, ap, ◌∙◌}
+use Rattle.std.proofs.lemmas.Bool.{leb-true, leb-false}
 use Rattle.std.specs.Prelude.{reverse}
 use Rattle.snap_model.specs.History.{after}
 use Rattle.snap_model.specs.SortedMap.{Pairs, at, range}
+use Rattle.snap_stamp.specs.Sides.{other}
+use Rattle.snap_stamp.specs.declared.side.Side.{Side}
 use Rattle.snap_stamp.specs.declared.side.Side.TheVariants.{Left, Right}
 use Rattle.snap_steps.specs.Clones.{Cloned, image, IsCloneOf}
-use Rattle.snap_view.specs.Nearest.{IsNearestPair}
-use Rattle.snap_view.specs.Walks.{pairs_left, falling_left, range_below}
-use Rattle.snap_view.specs.declared.ascend.Ascend.{Ascend}
-use Rattle.snap_view.specs.declared.descend.Descend.{Descend}
-use Rattle.snap_view.proofs.Neighbours.{clone_rises, range_rises, range_falls, none_rising, none_falling, past_range, before_range}
+use Rattle.snap_view.specs.Nearest.{IsBehind, IsNearestPair, reaches}
+use Rattle.snap_view.specs.Walked.{toward}
+use Rattle.snap_view.proofs.Neighbours.{before_range, below_is, clone_rises, empty_above, empty_below, none_falling, none_rising, past_range, range_falls, range_rises}
+use Rattle.snap_view.proofs.Ranges.{Rise}
 
-module _ (a : Ascend) (open_yet : a.ended ≡ false) (clone : IsCloneOf a.view.base (image a.view)) where
-  opened : pairs_left a ≡ range (after a.view.base) a.low a.high
-  opened = ap (λ b. cond b [] (range (after a.view.base) a.low a.high)) open_yet
+module _ (m : Pairs) (rise : Rise 0 (2 ^ 64) m) where
+  -- what the nearest pair leaves
+  gives : (side : Side) (from bound : ℕ) (p : ℕ × ℕ) (next : Option ℕ) → IsNearestPair (at m) side from (Some p) → reaches (other side) bound p.0 ≡ true → IsBehind side p.0 next → toward side m (Some from) bound ≡ p ∷ toward side m next bound
+  gives Left from bound p None near l b = range_falls m rise bound from p near (leb-true bound p.0 l) ∙ ap (λ (x : Pairs). p ∷ reverse x) (empty_below m bound p.0 (omega (arith, b)))
+  gives Left from bound p (Some k) near l b = range_falls m rise bound from p near (leb-true bound p.0 l) ∙ ap (λ (x : Pairs). p ∷ reverse x) (sym (below_is m bound k p.0 b))
+  gives Right from bound p None near l b = range_rises m rise from bound p near (leb-true p.0 bound l) ∙ ap (λ (x : Pairs). p ∷ x) (empty_above m rise (p.0 + 1) bound b)
+  gives Right from bound p (Some k) near l b = range_rises m rise from bound p near (leb-true p.0 bound l) ∙ ap (λ (k' : ℕ). p ∷ range m k' bound) (sym b.0)
 
-  pub ascent_gives : (b : Ascend) (now : Cloned) (p : ℕ × ℕ) → IsNearestPair (at (after a.view.base)) Right a.low (Some p) → p.0 ≤ a.high → now ≡ a.view → pairs_left b ≡ range (after now.base) (p.0 + 1) a.high → pairs_left a ≡ p ∷ pairs_left b
-  ascent_gives b now p near l view left = opened ∙ range_rises (after a.view.base) (clone_rises a.view clone) a.low a.high p near l
-      ∙ ap (λ (m : Pairs). p ∷ m) (sym (left ∙ ap (λ (c : Cloned). range (after c.base) (p.0 + 1) a.high) view))
+  ends : (side : Side) (from bound : ℕ) → IsNearestPair (at m) side from None → toward side m (Some from) bound ≡ []
+  ends Left from bound near = ap reverse (none_falling m rise bound from near)
+  ends Right from bound near = none_rising m rise from bound near
 
-  pub ascent_ends : IsNearestPair (at (after a.view.base)) Right a.low None → pairs_left a ≡ []
-  ascent_ends near = opened ∙ none_rising (after a.view.base) (clone_rises a.view clone) a.low a.high near
+  passes : (side : Side) (from bound : ℕ) (p : ℕ × ℕ) → IsNearestPair (at m) side from (Some p) → reaches (other side) bound p.0 ≡ false → toward side m (Some from) bound ≡ []
+  passes Left from bound p near l = ap reverse (before_range m rise bound from p near (leb-false bound p.0 l))
+  passes Right from bound p near l = past_range m rise from bound p near (leb-false p.0 bound l)
 
-  pub ascent_passes : (p : ℕ × ℕ) → IsNearestPair (at (after a.view.base)) Right a.low (Some p) → a.high < p.0 → pairs_left a ≡ []
-  ascent_passes p near l = opened ∙ past_range (after a.view.base) (clone_rises a.view clone) a.low a.high p near l
+-- of a walk through this clone, which has gone on to this seat
+module _ (seat now : Cloned) (clone : IsCloneOf seat.base (image seat)) (same : now ≡ seat) (side : Side) (next : Option ℕ) (from bound : ℕ) (is : next ≡ Some from) where
+  opened : toward side (after seat.base) next bound ≡ toward side (after seat.base) (Some from) bound
+  opened = ap (λ (o : Option ℕ). toward side (after seat.base) o bound) is
 
-module _ (d : Descend) (open_yet : d.ended ≡ false) (clone : IsCloneOf d.view.base (image d.view)) where
-  opened_down : falling_left d ≡ reverse (range (after d.view.base) d.low d.high)
-  opened_down = ap (λ b. cond b [] (reverse (range (after d.view.base) d.low d.high))) open_yet
+  pub walk_gives : (p : ℕ × ℕ) (then : Option ℕ) → IsNearestPair (at (after seat.base)) side from (Some p) → reaches (other side) bound p.0 ≡ true → IsBehind side p.0 then → toward side (after seat.base) next bound ≡ p ∷ toward side (after now.base) then bound
+  walk_gives p then near l b = opened ∙ gives (after seat.base) (clone_rises seat clone) side from bound p then near l b ∙ ap (λ (c : Cloned). p ∷ toward side (after c.base) then bound) (sym same)
 
-  pub descent_gives : (b : Descend) (now : Cloned) (p : ℕ × ℕ) → IsNearestPair (at (after d.view.base)) Left d.high (Some p) → d.low ≤ p.0 → now ≡ d.view → falling_left b ≡ reverse (range_below (after now.base) d.low p.0) → falling_left d ≡ p ∷ falling_left b
-  descent_gives b now p near l view left = opened_down ∙ range_falls (after d.view.base) (clone_rises d.view clone) d.low d.high p near l
-      ∙ ap (λ (m : Pairs). p ∷ m) (sym (left ∙ ap (λ (c : Cloned). reverse (range_below (after c.base) d.low p.0)) view))
+  pub walk_ends : IsNearestPair (at (after seat.base)) side from None → toward side (after seat.base) next bound ≡ []
+  walk_ends near = opened ∙ ends (after seat.base) (clone_rises seat clone) side from bound near
 
-  pub descent_ends : IsNearestPair (at (after d.view.base)) Left d.high None → falling_left d ≡ []
-  descent_ends near = opened_down ∙ ap reverse (none_falling (after d.view.base) (clone_rises d.view clone) d.low d.high near)
-
-  pub descent_passes : (p : ℕ × ℕ) → IsNearestPair (at (after d.view.base)) Left d.high (Some p) → p.0 < d.low → falling_left d ≡ []
-  descent_passes p near l = opened_down ∙ ap reverse (before_range (after d.view.base) (clone_rises d.view clone) d.low d.high p near l)
+  pub walk_passes : (p : ℕ × ℕ) → IsNearestPair (at (after seat.base)) side from (Some p) → reaches (other side) bound p.0 ≡ false → toward side (after seat.base) next bound ≡ []
+  walk_passes p near l = opened ∙ passes (after seat.base) (clone_rises seat clone) side from bound p near l

@@ -1,5 +1,7 @@
 pub mod Readable
 pub mod Tops
 pub mod Nearest
+pub mod Walked
 pub mod Walks
 pub mod Balances
+pub mod Ahead

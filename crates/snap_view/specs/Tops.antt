@@ -1,6 +1,6 @@
 -- Trees within a clone's, by the copies of their top rows.
-use Rattle.std.specs.Prelude.{◌≡◌, ℕ, Option, Some, None}
-use Rattle.snap_rule.specs.Tree.{Tree, Node, root}
+use Rattle.std.specs.Prelude.{◌≡◌, ℕ, ◌<◌, ◌≤◌, Option, Some, None}
+use Rattle.snap_rule.specs.Tree.{Tree, Node, depth, root}
 use Rattle.snap_rule.specs.Tree.Tree.{empty, node}
 use Rattle.snap_steps.specs.Clones.{IsWithin}
 use Rattle.snap_steps.specs.Copies.{IsCopyOf}
@@ -29,3 +29,8 @@ pub record HasTree (t : Tree) (row : ℕ) : Type 0 where
 abbrev pub rows_read : Option RowCopy → ℕ
 rows_read None = 0
 rows_read (Some copy) = 1
+
+-- the depth of a tree, or none where it has more levels than these
+abbrev pub IsDepthOf : Tree → (levels : ℕ) → Option ℕ → Type 0
+IsDepthOf t levels (Some d) = (d ≡ depth t) × (d ≤ levels)
+IsDepthOf t levels None = levels < depth t

@@ -8,6 +8,7 @@ ghost use Rattle.snap_view.specs.Balances.{IsHeightOf, TellsBalance, with_out};
 ghost use Rattle.snap_view.specs.Tops.{HasTree};
 
 use crate::table_view::TableView;
+use crate::way::MOST_LEVELS;
 use snap_stamp::RowNo;
 use snap_steps::{RowCopy, Steps, load_stamp};
 use std::marker::Brand;
@@ -22,9 +23,6 @@ pub enum Settled {
     /// The stamp of this row is at its greatest count.
     StampOut { row: RowNo },
 }
-
-// A settled tree of fewer than 2^32 rows has no more levels than these.
-const MOST_LEVELS: u32 = 64;
 
 // Whether a row of this height stands balanced over two heights.
 fn is_balanced(height: u64, left: u64, right: u64) -> bool

@@ -2,13 +2,17 @@
 //! waits, allocates or writes a word.
 #![tactic(auto)]
 
+mod ahead;
 mod ascend;
 mod balance;
+mod counted;
 mod counting;
 mod descend;
+mod going;
 mod nearest;
 mod ordered;
 mod table_view;
+mod walk;
 mod way;
 
 pub use ascend::Ascend;

@@ -12,6 +12,7 @@ use crate::table_view::TableView;
 use crate::way::{WayDown, behind, below, nearer};
 use snap_stamp::{Key, Side};
 use snap_steps::Steps;
+use std::marker::Brand;
 use std::sync::ledger::{Blank, Ledger};
 
 impl<'t> TableView<'t> {
@@ -86,12 +87,15 @@ impl<'t> TableView<'t> {
     }
 
     // The same, where nobody counts the rows that are read.
-    pub(crate) fn pair_from<L: Ledger>(
-        &mut self,
-        blank: Blank,
-        side: Side,
-        from: Key,
-    ) -> Option<(Key, u64)>
+    pub(crate) fn pair_near(&mut self, side: Side, from: Key) -> Option<(Key, u64)>
+        ensures nearest { IsNearestPair (at (after self.old.base)) side from result }
+        ensures clone { IsCloneOf self.old.base (image self.old) }
+        ensures view { self.new ≡ self.old }
+    {
+        self.pair_from::<Brand>(Blank::new(1), side, from)
+    }
+
+    fn pair_from<L: Ledger>(&mut self, blank: Blank, side: Side, from: Key) -> Option<(Key, u64)>
         requires name { blank.name ≡ L.name }
         requires parts { blank.parts ≡ L.parts }
         requires some { 0 < blank.parts }

@@ -1,74 +1,63 @@
 //! The ordered answers of a clone. Where its tree is settled each goes down at most twice, since past a row without a
 //! value the next row has one.
-ghost use Rattle.std.specs.Prelude.{◌≡◌, ◌≤◌, ◌+◌, ◌*◌};
+ghost use Rattle.std.specs.Prelude.{◌≡◌};
 ghost use Rattle.snap_model.specs.History.{after};
 ghost use Rattle.snap_model.specs.SortedMap.{first_pair, last_pair, floor, lower, ceiling, higher};
-ghost use Rattle.snap_rule.specs.Settled.{IsSettledTree};
-ghost use Rattle.snap_rule.specs.Tree.{depth};
-ghost use Rattle.snap_steps.specs.Clones.{image};
 
 use crate::table_view::TableView;
 use crate::way::behind;
 use snap_stamp::{Key, Side};
-use snap_steps::Steps;
-use std::sync::ledger::Ledger;
 
 impl<'t> TableView<'t> {
     /// The pair with the least key. Where the clone's tree is settled it is found by two ways down at most, and so are
     /// those of the calls below; else each row without a value that is passed costs one more.
-    pub fn first<L: Ledger>(&mut self, steps: &mut Steps<L>) -> Option<(Key, u64)>
+    pub fn first(&mut self) -> Option<(Key, u64)>
         ensures first { result ≡ first_pair (after self.old.base) }
         ensures view { self.new ≡ self.old }
-        ensures steps { IsSettledTree (image self.old) → steps.new ≤ steps.old + depth (image self.old) }
     {
-        self.nearest_pair(Side::Right, 0, steps)
+        self.pair_near(Side::Right, 0)
     }
 
     /// The pair with the greatest key.
-    pub fn last<L: Ledger>(&mut self, steps: &mut Steps<L>) -> Option<(Key, u64)>
+    pub fn last(&mut self) -> Option<(Key, u64)>
         ensures last { result ≡ last_pair (after self.old.base) }
         ensures view { self.new ≡ self.old }
-        ensures steps { IsSettledTree (image self.old) → steps.new ≤ steps.old + depth (image self.old) }
     {
-        self.nearest_pair(Side::Left, Key::MAX, steps)
+        self.pair_near(Side::Left, Key::MAX)
     }
 
     /// The pair with the greatest key that is at most this one.
-    pub fn floor<L: Ledger>(&mut self, key: Key, steps: &mut Steps<L>) -> Option<(Key, u64)>
+    pub fn floor(&mut self, key: Key) -> Option<(Key, u64)>
         ensures floor { result ≡ floor (after self.old.base) key }
         ensures view { self.new ≡ self.old }
-        ensures steps { IsSettledTree (image self.old) → steps.new ≤ steps.old + 2 * depth (image self.old) }
     {
-        self.nearest_pair(Side::Left, key, steps)
+        self.pair_near(Side::Left, key)
     }
 
     /// The pair with the greatest key below this one.
-    pub fn lower<L: Ledger>(&mut self, key: Key, steps: &mut Steps<L>) -> Option<(Key, u64)>
+    pub fn lower(&mut self, key: Key) -> Option<(Key, u64)>
         ensures lower { result ≡ lower (after self.old.base) key }
         ensures view { self.new ≡ self.old }
-        ensures steps { IsSettledTree (image self.old) → steps.new ≤ steps.old + 2 * depth (image self.old) }
     {
         let before = behind(Side::Left, key)?;
-        self.nearest_pair(Side::Left, before, steps)
+        self.pair_near(Side::Left, before)
     }
 
     /// The pair with the least key that is at least this one.
-    pub fn ceiling<L: Ledger>(&mut self, key: Key, steps: &mut Steps<L>) -> Option<(Key, u64)>
+    pub fn ceiling(&mut self, key: Key) -> Option<(Key, u64)>
         ensures ceiling { result ≡ ceiling (after self.old.base) key }
         ensures view { self.new ≡ self.old }
-        ensures steps { IsSettledTree (image self.old) → steps.new ≤ steps.old + 2 * depth (image self.old) }
     {
-        self.nearest_pair(Side::Right, key, steps)
+        self.pair_near(Side::Right, key)
     }
 
     /// The pair with the least key above this one.
-    pub fn higher<L: Ledger>(&mut self, key: Key, steps: &mut Steps<L>) -> Option<(Key, u64)>
+    pub fn higher(&mut self, key: Key) -> Option<(Key, u64)>
         ensures higher { result ≡ higher (after self.old.base) key }
         ensures view { self.new ≡ self.old }
-        ensures steps { IsSettledTree (image self.old) → steps.new ≤ steps.old + 2 * depth (image self.old) }
     {
         let _rows = self.rows;
         let next = behind(Side::Right, key)?;
-        self.nearest_pair(Side::Right, next, steps)
+        self.pair_near(Side::Right, next)
     }
 }

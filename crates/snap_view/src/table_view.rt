@@ -1,5 +1,5 @@
 //! A clone, the value at a key, and its pairs.
-ghost use Rattle.std.specs.Prelude.{◌≡◌, ◌≤◌, ◌+◌, reverse};
+ghost use Rattle.std.specs.Prelude.{◌≡◌, ◌≤◌, ◌<◌, ◌+◌, reverse};
 ghost use Rattle.snap_model.specs.History.{after};
 ghost use Rattle.snap_model.specs.SortedMap.{at, range};
 ghost use Rattle.snap_rule.specs.Tree.{Tree, depth, root};
@@ -10,11 +10,12 @@ ghost use Rattle.snap_view.specs.Tops.{HasTree, IsTopOf, rows_read};
 
 use crate::ascend::Ascend;
 use crate::descend::Descend;
+use crate::walk::Walk;
 use crate::way::below;
 use snap_stamp::{Key, RowNo, Side};
 use snap_steps::{RowCopy, Rows, Steps, ViewSeat, load_row};
-use std::marker::Model;
-use std::sync::ledger::Ledger;
+use std::marker::{Brand, Model};
+use std::sync::ledger::{Blank, Ledger};
 
 /// A clone of a table. Its answers are those of the map after its base, the table's history when it was cut.
 #[derive(Drop)]
@@ -55,6 +56,14 @@ impl<'t> TableView<'t> {
         }
     }
 
+    /// The seat, to give it back to a pass.
+    pub fn into_seat(self) -> ViewSeat
+        ensures { result ≡ self.entry }
+    {
+        let TableView { rows: _, seat } = self;
+        seat
+    }
+
     /// Gives the view up.
     pub fn release(self) {
         let TableView { rows: _, seat: _ } = self;
@@ -85,8 +94,26 @@ impl<'t> TableView<'t> {
         self.row_at(row, steps)
     }
 
-    /// The value at the key. It reads no more rows than stand on the longest way down the clone's tree.
-    pub fn get<L: Ledger>(&mut self, key: Key, steps: &mut Steps<L>) -> Option<u64>
+    /// The value at the key.
+    pub fn get(&mut self, key: Key) -> Option<u64>
+        ensures value { result ≡ at (after self.old.base) key }
+        ensures view { self.new ≡ self.old }
+    {
+        self.value_at::<Brand>(Blank::new(1), key)
+    }
+
+    fn value_at<L: Ledger>(&mut self, blank: Blank, key: Key) -> Option<u64>
+        requires name { blank.name ≡ L.name }
+        requires parts { blank.parts ≡ L.parts }
+        requires some { 0 < blank.parts }
+        ensures value { result ≡ at (after self.old.base) key }
+        ensures view { self.new ≡ self.old }
+    {
+        self.get_counted(key, &mut Steps::<L>::new(blank))
+    }
+
+    /// `get`, with a counter of the rows that it reads: no more than stand on the longest way down the clone's tree.
+    pub fn get_counted<L: Ledger>(&mut self, key: Key, steps: &mut Steps<L>) -> Option<u64>
         ensures value { result ≡ at (after self.old.base) key }
         ensures view { self.new ≡ self.old }
         ensures steps { steps.new ≤ steps.old + depth (image self.old) }
@@ -106,13 +133,8 @@ impl<'t> TableView<'t> {
         ensures pairs { pairs_left result ≡ range (after self.old.base) low high }
         ensures view { self.new ≡ self.old }
     {
-        let view = self.twin();
-        Ascend {
-            view,
-            low,
-            high,
-            ended: false,
-        }
+        let walk = Walk::begin(self.twin(), Side::Right, low, high);
+        Ascend { walk }
     }
 
     /// The pairs whose keys lie from `low` to `high`, by falling keys.
@@ -120,13 +142,8 @@ impl<'t> TableView<'t> {
         ensures pairs { falling_left result ≡ reverse (range (after self.old.base) low high) }
         ensures view { self.new ≡ self.old }
     {
-        let view = self.twin();
-        Descend {
-            view,
-            low,
-            high,
-            ended: false,
-        }
+        let walk = Walk::begin(self.twin(), Side::Left, high, low);
+        Descend { walk }
     }
 
     /// All pairs, by rising keys.

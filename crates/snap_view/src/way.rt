@@ -5,6 +5,9 @@ ghost use Rattle.snap_view.specs.Nearest.{reaches, turn, on, IsBehind};
 use snap_stamp::{Key, RowNo, Side};
 use snap_steps::RowCopy;
 
+// A settled tree of fewer than 2^32 rows has no more levels than these.
+pub const MOST_LEVELS: u32 = 64;
+
 // Where a way down ended: the row that was looked for, as its key and its value if it has one, and how many rows
 // stand on the way.
 #[derive(Drop)]
@@ -14,7 +17,7 @@ pub struct WayDown {
 }
 
 // Whether the key is `from` or lies on that side of it.
-fn reaches(side: Side, from: Key, key: Key) -> bool
+pub fn reaches(side: Side, from: Key, key: Key) -> bool
     ensures { result ≡ reaches side from key }
 {
     match side {

@@ -1,58 +1,17 @@
-use Rattle.std.proofs.Common.{◌∙◌, ◌<◌, ◌^◌, Option, None, ℕ, ◌≡◌, ◌*◌, ◌≤◌, length, arith, refl, ap, sym, subst}
+use Rattle.std.proofs.Common.{ℕ, ◌<◌, ◌≤◌, ◌*◌, ◌^◌, length, arith, ap, sym, subst}
 use Rattle.snap_model.specs.History.{after}
 use Rattle.snap_rule.specs.Settled.{IsSettledTree, least}
-use Rattle.snap_rule.specs.Tree.{Tree, Between, depth}
-use Rattle.snap_steps.specs.Seen.{Laid}
-use Rattle.snap_view.specs.Readable.{IsReadable}
-use Rattle.snap_view.proofs.Sizes.{depth_low, pairs_below, is_shallow}
-use Rattle.snap_stamp.specs.declared.side.Side.TheVariants.{Right}
 use Rattle.snap_steps.specs.Clones.{Cloned, image}
-use Rattle.snap_view.specs.Nearest.{nearest_row, levels}
-use Rattle.snap_view.proofs.Levels.{HasSounded, sounded_none, sounded_on, sounded_all, sounds_fewer}
-use Rattle.snap_view.proofs.Passing.{keys_ahead}
+use Rattle.snap_view.proofs.Sizes.{depth_low, pairs_below, is_shallow}
 use Rattle.snap_view.proofs.table_view.TableView.depth.Goals as goal
 
-pub loop-next-init : goal.loop-next-init
-loop-next-init c = (refl, sounded_none (image c.args.self.now))
-
-pub loop-next-smaller : goal.loop-next-smaller
-loop-next-smaller c =
-    let t : Tree = image c.args.self.now in
-    let h = subst (λ (k : Cloned). Between 0 (2 ^ 64) (image k)) c.self.view_is c.self.invariant.clone.ordered in
-    let s = subst (λ (o : Option ℕ). HasSounded t o c.loop-next.deepest) c.in-Some.is c.loop-next.invariant.1 in
-    let is = c.way_from-way.ensures.row ∙ ap (λ (k : Cloned). nearest_row Right c.in-Some.from (image k)) c.loop-next.invariant.0 in
-    subst (λ (o : Option ℕ). keys_ahead Right c.past-next.result < keys_ahead Right o) (sym c.in-Some.is) (sounds_fewer t h c.in-Some.from c.way_from-way.result.row c.past-next.result s.fits is c.past-next.ensures)
-
-pub loop-next-preserved : goal.loop-next-preserved
-loop-next-preserved c =
-    let t : Tree = image c.args.self.now in
-    let h = subst (λ (k : Cloned). Between 0 (2 ^ 64) (image k)) c.self.view_is c.self.invariant.clone.ordered in
-    let s = subst (λ (o : Option ℕ). HasSounded t o c.loop-next.deepest) c.in-Some.is c.loop-next.invariant.1 in
-    let is = c.way_from-way.ensures.row ∙ ap (λ (k : Cloned). nearest_row Right c.in-Some.from (image k)) c.loop-next.invariant.0 in
-    let counts = c.way_from-way.ensures.levels ∙ ap (λ (k : Cloned). levels Right c.in-Some.from (image k)) c.loop-next.invariant.0 in (
-      c.way_from-way.ensures.view ∙ c.loop-next.invariant.0,
-      subst (HasSounded t c.past-next.result) (sym c.max-deepest.ensures) (sounded_on t h c.in-Some.from c.loop-next.deepest c.way_from-way.result.levels c.way_from-way.result.row c.past-next.result s is counts c.past-next.ensures),
-    )
-
--- the longest way was gone
-deepest_is : (rows : Laid) (seat now : Cloned) → seat ≡ now → IsReadable rows seat → (next : Option ℕ) (best : ℕ) → next ≡ None → HasSounded (image now) next best → best ≡ depth (image now)
-deepest_is rows seat now is readable next best ends s = sounded_all (image now) (subst (λ (k : Cloned). Between 0 (2 ^ 64) (image k)) is readable.clone.ordered) best (subst (λ (o : Option ℕ). HasSounded (image now) o best) ends s)
-
-pub returns-clause-depth : goal.returns-clause-depth
-returns-clause-depth c = deepest_is c.self.inside.rows.now c.self.inside.seat c.args.self.now c.self.view_is c.self.invariant c.loop-next.next c.loop-next.deepest c.in_default.is c.loop-next.invariant.1
-
 pub returns-clause-low : goal.returns-clause-low
-returns-clause-low c =
-    let is = deepest_is c.self.inside.rows.now c.self.inside.seat c.args.self.now c.self.view_is c.self.invariant c.loop-next.next c.loop-next.deepest c.in_default.is c.loop-next.invariant.1 in
-    omega (arith, is, depth_low c.self.inside.rows.now c.self.inside.seat c.args.self.now c.self.view_is c.self.invariant)
+returns-clause-low c = omega (arith, c.any_depth.ensures.depth, depth_low c.self.inside.rows.now c.self.inside.seat c.args.self.now c.self.view_is c.self.invariant)
 
 pub returns-clause-pairs : goal.returns-clause-pairs
-returns-clause-pairs c =
-    let is = deepest_is c.self.inside.rows.now c.self.inside.seat c.args.self.now c.self.view_is c.self.invariant c.loop-next.next c.loop-next.deepest c.in_default.is c.loop-next.invariant.1 in
-    subst (λ (n : ℕ). length (after c.args.self.now.base) < 2 ^ n) (sym is) (pairs_below c.self.inside.rows.now c.self.inside.seat c.args.self.now c.self.view_is c.self.invariant)
+returns-clause-pairs c = subst (λ (n : ℕ). length (after c.args.self.now.base) < 2 ^ n) (sym c.any_depth.ensures.depth) (pairs_below c.self.inside.rows.now c.self.inside.seat c.args.self.now c.self.view_is c.self.invariant)
 
 pub returns-clause-shallow : goal.returns-clause-shallow
 returns-clause-shallow c =
-    let is = deepest_is c.self.inside.rows.now c.self.inside.seat c.args.self.now c.self.view_is c.self.invariant c.loop-next.next c.loop-next.deepest c.in_default.is c.loop-next.invariant.1 in
     let same = ap (λ (k : Cloned). k.next) c.self.view_is in
-    subst (λ (n : ℕ). IsSettledTree (image c.args.self.now) → least n ≤ 2 * length (after c.args.self.now.base)) (sym is) (is_shallow c.self.inside.rows.now c.self.inside.seat c.args.self.now c.self.view_is c.self.invariant (omega (arith, same, c.next-last.ensures, c.next-last.type_inv)))
+    subst (λ (n : ℕ). IsSettledTree (image c.args.self.now) → least n ≤ 2 * length (after c.args.self.now.base)) (sym c.any_depth.ensures.depth) (is_shallow c.self.inside.rows.now c.self.inside.seat c.args.self.now c.self.view_is c.self.invariant (omega (arith, same, c.next-last.ensures, c.next-last.type_inv)))

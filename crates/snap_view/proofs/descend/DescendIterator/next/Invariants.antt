@@ -1,4 +1,0 @@
-use Rattle.snap_view.proofs.descend.DescendIterator.next.Given as goal
-
-abbrev pub ghosts-pair_from : goal.ghosts-pair_from
-ghosts-pair_from a = record { name = a.blank.name; parts = a.blank.parts }

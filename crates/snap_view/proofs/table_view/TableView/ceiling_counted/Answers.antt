@@ -1,0 +1,9 @@
+use Rattle.snap_model.specs.History.{after}
+use Rattle.snap_stamp.specs.declared.side.Side.TheVariants.{Right}
+use Rattle.snap_view.proofs.Neighbours.{clone_rises, nearest_answer}
+use Rattle.snap_view.proofs.table_view.TableView.ceiling_counted.Goals as goal
+
+pub returns-clause-ceiling : goal.returns-clause-ceiling
+returns-clause-ceiling g c =
+    let rise = clone_rises c.args.self.now c.nearest_pair.ensures.clone in
+    nearest_answer (after c.args.self.now.base) rise Right c.args.key c.nearest_pair.result c.nearest_pair.ensures.nearest

@@ -1,0 +1,30 @@
+-- What a walk through the pairs of a clone has left.
+use Rattle.std.specs.Prelude.{ℕ, [], Option, Some, None, reverse}
+use Rattle.snap_model.specs.History.{after}
+use Rattle.snap_model.specs.SortedMap.{Pairs, range}
+use Rattle.snap_stamp.specs.declared.side.Side.{Side}
+use Rattle.snap_stamp.specs.declared.side.Side.TheVariants.{Left, Right}
+use Rattle.snap_steps.specs.Clones.{Cloned}
+
+-- a walk through this clone toward the side, from the next key on if there is one, up to the bound
+pub record Walked : Type 0 where
+  pub seat : Cloned
+  pub side : Side
+  pub next : Option ℕ
+  pub bound : ℕ
+
+abbrev pub begun : Cloned → Side → (from bound : ℕ) → Walked
+begun seat side from bound = record { seat = seat; side = side; next = Some from; bound = bound }
+
+-- the pairs from a key up to the bound, in the order of a walk toward the side
+abbrev pub along : Side → Pairs → (from bound : ℕ) → Pairs
+along Left m from bound = reverse (range m bound from)
+along Right m from bound = range m from bound
+
+abbrev pub toward : Side → Pairs → (from : Option ℕ) → (bound : ℕ) → Pairs
+toward side m None bound = []
+toward side m (Some from) bound = along side m from bound
+
+-- the pairs that are still to come
+abbrev pub left : Walked → Pairs
+left w = toward w.side (after w.seat.base) w.next w.bound
