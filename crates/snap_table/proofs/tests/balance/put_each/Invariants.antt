@@ -1,6 +1,0 @@
-use Rattle.snap_table.specs.Ready.{IsReadyTo}
-use Rattle.snap_table.proofs.tests.balance.put_each.Given as goal
-
--- the pass is ready again, with one use a turn
-abbrev pub invariant-loop-turn : goal.invariant-loop-turn
-invariant-loop-turn g l = IsReadyTo l.table l.fn.who l.turn l.pass
