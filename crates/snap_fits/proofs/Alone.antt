@@ -14,7 +14,7 @@ use Rattle.snap_model.specs.declared.command.Command.{Command}
 use Rattle.snap_model.specs.declared.command.Command.TheVariants as command
 use Rattle.snap_model.specs.declared.command.Reply.{Reply}
 use Rattle.snap_model.specs.declared.command.Reply.TheVariants as reply
-use Rattle.snap_fits.specs.Fits.{Setting, Front, Place, Clone, Matching, Told, Stands, IsMade, MakesAll, MeetsWrite, MeetsLoad, moved, made_by, set_at, AtClone, entries_told, put_reply, remove_reply, value_reply, pair_reply, Meets, MeetsAll, start, next, export_at, export_of, exports_of}
+use Rattle.snap_fits.specs.Fits.{Setting, Front, Place, Clone, Matching, Told, CanBeDeep, TellsDepth, MeetsDepth, Stands, IsMade, MakesAll, MeetsWrite, MeetsLoad, moved, made_by, set_at, AtClone, entries_told, put_reply, remove_reply, value_reply, pair_reply, Meets, MeetsAll, start, next, export_at, export_of, exports_of}
 use Rattle.snap_fits.specs.Alone.{Maps, empty_maps, after_puts, WritesMap, LoadsMap, Answers, AnswersAll, copied_at, copied_by, AloneAnswers}
 use Rattle.snap_fits.proofs.Prefixes.{take_seen}
 use Rattle.snap_fits.proofs.Steps.{put_tells, remove_tells}
@@ -134,6 +134,15 @@ asked fronts None v m P same h = absurd h
 asked fronts (Some c) None m P same h = absurd same
 asked fronts (Some c) (Some x) m P same h = (x, refl, subst P (ap (map_at (fronts c.table)) h.0 ∙ sym same) h.1)
 
+-- the depth of a clone can be that of its copy
+deep : (fronts : ℕ → Front) (s : Setting) (c : Option Clone) (v : Option Pairs) (r : Reply) (m : ℕ) → SameCopy fronts c v → MeetsDepth s fronts c r m → (x : Pairs) × (v ≡ Some x) × TellsDepth r (length x) (CanBeDeep (length x))
+unfolding SameCopy
+deep fronts s None v r m same h = absurd h
+deep fronts s (Some c) None r m same h = absurd same
+deep fronts s (Some c) (Some x) r m same h =
+    let P : Pairs → Type 0 = λ map. TellsDepth r (length map) (CanBeDeep (length map)) in
+    (x, refl, subst P (ap (map_at (fronts c.table)) h.0 ∙ sym same) (h.1.0, h.1.1, h.1.2, h.1.3.can))
+
 copied : (fronts : ℕ → Front) (c : Option Clone) (v : Option Pairs) (lo hi : ℕ) (file : List ℕ) → SameCopy fronts c v → export_at fronts c lo hi file ≡ copied_at v lo hi file
 unfolding SameCopy
 copied fronts None None lo hi file same = refl
@@ -251,7 +260,7 @@ module _ (s : Setting) (w : ℕ) (fronts : ℕ → Front) (legal : (t : ℕ) →
   step_of (command.Higher n k) r m h = record { maps = a; answers = asks_step n m (λ map. r ≡ pair_reply (higher map k)) h; follows = g }
   step_of (command.Count n lo hi) r m h = record { maps = a; answers = asks_step n m (λ map. r ≡ reply.Count (length (range map lo hi))) h; follows = g }
   step_of (command.Export n lo hi file) r m h = record { maps = a; answers = asks_step n m (λ map. r ≡ reply.Exported (length (range map lo hi))) h; follows = g }
-  step_of (command.Depth n) r m h = absurd h
+  step_of (command.Depth n) r m h = let x = deep fronts s (q.clones n) (a.clones n) r m (g.clones n) h in record { maps = a; answers = (x.0, x.1, x.2, refl); follows = g }
 
   one_copied : (c : Command) → export_of fronts q c ≡ copied_by a c
   one_copied (command.Export n lo hi file) = copied fronts (q.clones n) (a.clones n) lo hi file (g.clones n)

@@ -1,5 +1,5 @@
 -- The example fits.
-use Rattle.std.proofs.Common.{◌≡◌, ℕ, zero, suc, false, [], ◌∷◌, Some, None, inl, refl, eqb, ne_eqb, arith}
+use Rattle.std.proofs.Common.{◌≡◌, ℕ, zero, suc, true, false, true≢false, [], ◌∷◌, Some, None, inl, refl, eqb, ne_eqb, arith}
 use Rattle.snap_model.specs.declared.call.Call.TheVariants.{Put}
 use Rattle.snap_fits.specs.Fits.{IsMatched, start, matching_after, made_by}
 use Rattle.snap_fits.specs.Example.{small, fronts, told, ExampleFits}
@@ -18,7 +18,7 @@ example_fits = record {
         (refl, record { stands = record { later = omega arith; within = omega arith; entries = refl }; cut = refl }),
         (
           inl (None, refl, record { stands = record { later = omega arith; within = omega arith; entries = refl }; after = omega arith; entry = record { before = made_by 1 (Put 7 9) None ∷ made_by 0 (Put 7 5) (Some 9) ∷ []; is = refl } }),
-          ((refl, refl), tt),
+          ((refl, refl), ((refl, (1, true, refl, record { can = record { many = omega arith; shallow = λ e. omega arith }; low = omega arith; cause = λ e. absurd (true≢false e) })), tt)),
         ),
       ),
     ),

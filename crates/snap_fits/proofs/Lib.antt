@@ -7,3 +7,4 @@ pub mod Runs
 pub mod Example
 pub mod Alone
 pub mod Wrong
+pub mod Depths

@@ -1,5 +1,5 @@
 -- The commands of a session, one after another.
-use Rattle.std.proofs.Common.{◌≤◌, ◌≡◌, ◌≢◌, ◌<◌, ◌-◌, ◌^◌, ℕ, List, [], ◌∷◌, ◌++◌, length, Option, Some, None, refl, ap, sym, ◌∙◌, subst, arith, eq-eqb, ne_eqb, eqb, false, take, append_assoc, append-nil}
+use Rattle.std.proofs.Common.{◌≤◌, ◌≡◌, ◌≢◌, ◌<◌, ◌-◌, ◌^◌, ℕ, Bool, List, [], ◌∷◌, ◌++◌, length, Option, inl, inr, Some, None, refl, ap, sym, ◌∙◌, subst, arith, eq-eqb, ne_eqb, eqb, false, take, append_assoc, append-nil}
 use native.Mathlib.Decide.{ℕ_discrete}
 use mathlib.Core.Logic.{dite}
 use Rattle.std.specs.Prelude.{min}
@@ -12,13 +12,13 @@ use Rattle.snap_model.specs.declared.command.Command.{Command}
 use Rattle.snap_model.specs.declared.command.Command.TheVariants as command
 use Rattle.snap_model.specs.declared.command.Reply.{Reply}
 use Rattle.snap_model.specs.declared.command.Reply.TheVariants as reply
-use Rattle.snap_fits.specs.Fits.{Setting, Front, Place, Clone, Matching, Told, MeetsWrite, MeetsGet, MeetsLoad, IsCut, moved, set_at, with_place, AtClone, entries_told, put_reply, remove_reply, value_reply, pair_reply, Meets, MeetsAll, matching_after, start, next, Fits, export_at, export_of, exports_of}
+use Rattle.snap_fits.specs.Fits.{Setting, Front, Place, Clone, Matching, Told, TellsDepth, IsDepth, MeetsDepth, MeetsWrite, MeetsGet, MeetsLoad, IsCut, moved, set_at, with_place, AtClone, entries_told, put_reply, remove_reply, value_reply, pair_reply, Meets, MeetsAll, matching_after, start, next, Fits, export_at, export_of, exports_of}
 use Rattle.snap_fits.specs.Sessions.{Track, Kept, Course, Reaches, ReachesAll, SameClone, AgreesAt, Agrees, SessionOk, Covers, exported, exported_from}
-use Rattle.snap_fits.specs.Steps.{GoesOn, Reads, Cuts, OnPass, SameClones, OneClone, WriteAnswers, LoadAnswers, Tells, Same, Steps}
+use Rattle.snap_fits.specs.Steps.{GoesOn, Reads, Cuts, OnPass, Learns, SameClones, OneClone, WriteAnswers, LoadAnswers, Tells, Deep, DepthAnswers, Same, Steps}
 use Rattle.snap_fits.specs.Laws.{ServedBegins, ServedGoesOn, ServedEnds}
 use Rattle.snap_fits.proofs.Prefixes.{begins_trans, begins_is, begins_length, take_seen}
 use Rattle.snap_fits.proofs.Lengths.{range_length, after_length}
-use Rattle.snap_fits.proofs.Tracks.{later_is, reaches_back}
+use Rattle.snap_fits.proofs.Tracks.{later_is, reaches_back, agrees_learnt}
 use Rattle.snap_fits.proofs.Steps.{PassStep, write_step, get_step, cut_step, load_step, put_tells, remove_tells}
 
 abbrev line : Command → Reply → ℕ → Told
@@ -40,7 +40,7 @@ set_there f n i x e = let q : eqb i n ≡ false = ne_eqb i n e in rw q
 -- a clone stays the same clone
 clone_kept : (f g : ℕ → Track) (c : Option Clone) (v : Option Kept) → ((t : ℕ) → GoesOn (f t) (g t)) → SameClone f c v → SameClone g c v
 clone_kept f g None None l h = tt
-clone_kept f g (Some c) (Some v) l h = (h.0, h.1, begins_trans v.base (f v.table).seen (g v.table).seen h.2 (l v.table).seen)
+clone_kept f g (Some c) (Some v) l h = (h.0, h.1, begins_trans v.base (f v.table).seen (g v.table).seen h.2 (l v.table).seen, let low = h.3 in let on = (l v.table).handed in omega arith)
 clone_kept f g None (Some v) l h = absurd h
 clone_kept f g (Some c) None l h = absurd h
 
@@ -51,6 +51,12 @@ moment_of : Option Clone → ℕ
 moment_of None = 0
 moment_of (Some c) = c.moment
 
+-- the map at a clone's moment is that after its base
+map_then : (s : Setting) (w : ℕ) (a : Course) (c : Clone) (v : Kept) (fronts : ℕ → Front) → SameClone a.passes (Some c) (Some v) → ReachesAll s w a fronts → after (take c.moment (fronts c.table).history) ≡ after v.base
+map_then s w a c v fronts h r =
+    let b : Begins v.base (fronts v.table).history = begins_trans v.base (a.passes v.table).seen (fronts v.table).history h.2 (r v.table).seen in
+    ap (λ (i : ℕ). after (take c.moment (fronts i).history)) h.0 ∙ ap (λ (i : ℕ). after (take i (fronts v.table).history)) h.1 ∙ ap after (take_seen v.base (fronts v.table).history b)
+
 -- an answer of a clone is one of its moment
 at_clone : (s : Setting) (w : ℕ) (a : Course) (P : Pairs → Type 0) (c : Option Clone) (v : Option Kept) → SameClone a.passes c v → Tells v P → (fronts : ℕ → Front) → ReachesAll s w a fronts → AtClone fronts c (moment_of c) P
 unfolding moment_of
@@ -58,10 +64,7 @@ at_clone s w a P None None h t fronts r = absurd t
 at_clone s w a P None (Some v) h t fronts r = absurd h
 at_clone s w a P (Some c) None h t fronts r = absurd h
 at_clone s w a P (Some c) (Some v) h t fronts r =
-    let b : Begins v.base (fronts v.table).history = begins_trans v.base (a.passes v.table).seen (fronts v.table).history h.2 (r v.table).seen in
-    let e : after (take c.moment (fronts c.table).history) ≡ after v.base =
-    ap (λ (i : ℕ). after (take c.moment (fronts i).history)) h.0 ∙ ap (λ (i : ℕ). after (take i (fronts v.table).history)) h.1 ∙ ap after (take_seen v.base (fronts v.table).history b) in
-    (refl, subst P (sym e) t)
+    (refl, subst P (sym (map_then s w a c v fronts h r)) t)
 
 -- where nothing changed, the session stands where it stood
 agrees_same : (w : ℕ) (q : Matching) (a b : Course) → Agrees w q a → Same a b → Agrees w q b
@@ -140,6 +143,64 @@ module _ (s : Setting) (w : ℕ) (q : Matching) (a b : Course) (g : Agrees w q a
       let y = reaches_same s w a b fronts h.0.passes z in
       at_clone s w a (λ map. r ≡ reply.Count (length (range map lo hi))) (q.clones n) (a.clones n) (g.clones n) (counted s w a lo hi r (a.clones n) h.1 (q.clones n) (g.clones n) fronts y) fronts y
 
+-- the depth of a clone
+depth_later : (s : Setting) (a b : Course) (v : Option Kept) (r : Reply) → DepthAnswers s a v r b → (t : ℕ) → GoesOn (a.passes t) (b.passes t)
+depth_later s a b None r h t = absurd h
+depth_later s a b (Some v) r h t = dite (ℕ_discrete t v.table)
+    (λ e. let P : ℕ → Type 0 = λ u. GoesOn (a.passes u) (b.passes u) in subst P (sym e) h.0.here.on)
+    (λ n. later_is (a.passes t) (b.passes t) (h.0.others t n))
+
+depth_place : (s : Setting) (w : ℕ) (p : Place) (a b : Course) (v : Option Kept) (r : Reply) → DepthAnswers s a v r b → (t : ℕ) → AgreesAt w p (a.passes t) → AgreesAt w p (b.passes t)
+depth_place s w p a b None r h t g = absurd h
+depth_place s w p a b (Some v) r h t g = dite (ℕ_discrete t v.table)
+    (λ e. agrees_learnt w p (a.passes t) (b.passes t) g (let P : ℕ → Type 0 = λ u. Learns (a.passes u) (b.passes u) in subst P (sym e) h.0.here))
+    (λ n. let P : Track → Type 0 = λ x. AgreesAt w p x in subst P (sym (h.0.others t n)) g)
+
+depth_in_use : (s : Setting) (a b : Course) (v : Option Kept) (r : Reply) → DepthAnswers s a v r b → b.in_use ≡ a.in_use
+depth_in_use s a b None r h = absurd h
+depth_in_use s a b (Some v) r h = h.0.in_use
+
+deep_is : (s : Setting) (w : ℕ) (v : Kept) (pass : Track) (f : Front) (depth : ℕ) (settled : Bool) → v.next ≤ pass.handed → Reaches s w pass f → Deep s v pass depth settled → IsDepth s f (length (after v.base)) depth settled
+deep_is s w v pass f depth settled noted r h =
+    let over : pass.handed ≤ f.drawn = r.handed in
+    let top : f.drawn ≤ s.rows = r.rows in
+    let low : depth ≤ v.next = h.low in
+    record {
+      can = h.can;
+      low = omega arith;
+      cause = λ e. elim (h.cause e) [
+        | inl out ↦ inl (omega (arith, out, noted, over, top))
+        | inr worn ↦ inr (r.worn worn)
+      ];
+    }
+
+depth_at : (s : Setting) (w : ℕ) (a b : Course) (c : Option Clone) (v : Option Kept) (r : Reply) → SameClone b.passes c v → DepthAnswers s a v r b → (fronts : ℕ → Front) → ReachesAll s w b fronts → MeetsDepth s fronts c r (moment_of c)
+unfolding moment_of
+depth_at s w a b None None r h t fronts z = absurd t
+depth_at s w a b None (Some v) r h t fronts z = absurd h
+depth_at s w a b (Some c) None r h t fronts z = absurd h
+depth_at s w a b (Some c) (Some v) r h t fronts z =
+    let pairs = length (after v.base) in
+    let deep : IsDepth s (fronts v.table) pairs t.1.0 t.1.1 = deep_is s w v (b.passes v.table) (fronts v.table) t.1.0 t.1.1 h.3 (z v.table) t.1.3 in
+    let told : TellsDepth r pairs (IsDepth s (fronts v.table) pairs) = (t.1.0, t.1.1, t.1.2, deep) in
+    let P : ℕ → Type 0 = λ u. TellsDepth r pairs (IsDepth s (fronts u) pairs) in
+    let Q : Pairs → Type 0 = λ m. TellsDepth r (length m) (IsDepth s (fronts c.table) (length m)) in
+    (refl, subst Q (sym (map_then s w b c v fronts h z)) (subst P (sym h.0) told))
+
+depth_step : (s : Setting) (w : ℕ) (q : Matching) (a b : Course) (n : ℕ) (r : Reply) → Agrees w q a → DepthAnswers s a (a.clones n) r b → SameClones a b → Step s w q a (command.Depth n) r b
+depth_step s w q a b n r g h same =
+    let later : (t : ℕ) → GoesOn (a.passes t) (b.passes t) = depth_later s a b (a.clones n) r h in
+    record {
+      moment = moment_of (q.clones n);
+      agrees = record {
+        in_use = g.in_use ∙ sym (depth_in_use s a b (a.clones n) r h);
+        places = λ t. depth_place s w (q.places t) a b (a.clones n) r h t (g.places t);
+        clones = clones_kept q a b later same g.clones;
+      };
+      later = later;
+      meets = depth_at s w a b (q.clones n) (a.clones n) r (clone_kept a.passes b.passes (q.clones n) (a.clones n) later (g.clones n)) h;
+    }
+
 pub step_of : (s : Setting) (w : ℕ) (q : Matching) (a b : Course) (c : Command) (r : Reply) → Agrees w q a → Steps s a c r b → Step s w q a c r b
 unfolding moment_of
 step_of s w q a b (command.Put k v) r g h =
@@ -165,18 +226,19 @@ step_of s w q a b (command.Load file) r g h =
     record { moment = x.moment; agrees = used_agrees s w q a b g P h.0 (entries_told r) 0 M x h.1; later = used_later s w q a b g P h.0 (entries_told r) 0 M x; meets = λ fronts z. x.meets (fronts q.in_use) (z q.in_use) }
 step_of s w q a b (command.Snap n name) r g h =
     let base : List Entry = h.1 in
-    let P : Track → Track → Type 0 = λ old new. Cuts old new base in
+    let counted : ℕ = h.2 in
+    let P : Track → Track → Type 0 = λ old new. Cuts old new base counted in
     let M : Front → ℕ → Type 0 = λ f m. IsCut f w (q.places q.in_use) m in
-    let k : Cuts (a.passes q.in_use) (b.passes q.in_use) base = here_used s w q a b g P h.2 in
-    let x : PassStep s w (q.places q.in_use) (a.passes q.in_use) (b.passes q.in_use) 0 1 M = cut_step s w (q.places q.in_use) (a.passes q.in_use) (b.passes q.in_use) base (g.places q.in_use) k in
-    let l : (t : ℕ) → GoesOn (a.passes t) (b.passes t) = used_later s w q a b g P h.2 0 1 M x in
+    let k : Cuts (a.passes q.in_use) (b.passes q.in_use) base counted = here_used s w q a b g P h.3 in
+    let x : PassStep s w (q.places q.in_use) (a.passes q.in_use) (b.passes q.in_use) 0 1 M = cut_step s w (q.places q.in_use) (a.passes q.in_use) (b.passes q.in_use) base counted (g.places q.in_use) k in
+    let l : (t : ℕ) → GoesOn (a.passes t) (b.passes t) = used_later s w q a b g P h.3 0 1 M x in
     record {
       moment = length (b.passes q.in_use).seen;
       agrees = record {
-        in_use = g.in_use ∙ sym h.2.in_use;
-        places = used_places s w q a b g P h.2 0 1 M x;
-        clones = one_clone q a b n (Some (record { table = q.in_use; moment = length (b.passes q.in_use).seen })) (Some (record { table = a.in_use; base = base })) l g.clones
-            (g.in_use, ap length k.whole, begins_is base (b.passes a.in_use).seen (sym h.2.here.whole)) h.3;
+        in_use = g.in_use ∙ sym h.3.in_use;
+        places = used_places s w q a b g P h.3 0 1 M x;
+        clones = one_clone q a b n (Some (record { table = q.in_use; moment = length (b.passes q.in_use).seen })) (Some (record { table = a.in_use; base = base; next = counted })) l g.clones
+            (g.in_use, ap length k.whole, begins_is base (b.passes a.in_use).seen (sym h.3.here.whole), h.3.here.handed) h.4;
       };
       later = l;
       meets = λ fronts z. (h.0, x.meets (fronts q.in_use) (z q.in_use));
@@ -214,7 +276,7 @@ step_of s w q a b (command.Ceiling n k) r g h = record { moment = moment_of (q.c
 step_of s w q a b (command.Higher n k) r g h = record { moment = moment_of (q.clones n); agrees = same_agrees s w q a b g h.0; later = same_later s w q a b g h.0; meets = tells_step s w q a b g n (λ map. r ≡ pair_reply (higher map k)) h }
 step_of s w q a b (command.Count n lo hi) r g h = record { moment = moment_of (q.clones n); agrees = same_agrees s w q a b g h.0; later = same_later s w q a b g h.0; meets = count_step s w q a b g n lo hi r h }
 step_of s w q a b (command.Export n lo hi file) r g h = record { moment = moment_of (q.clones n); agrees = same_agrees s w q a b g h.0; later = same_later s w q a b g h.0; meets = tells_step s w q a b g n (λ map. r ≡ reply.Exported (length (range map lo hi))) h }
-step_of s w q a b (command.Depth n) r g h = absurd h
+step_of s w q a b (command.Depth n) r g h = depth_step s w q a b n r g h.0 h.1
 
 meets_more : (s : Setting) (w : ℕ) (fronts : ℕ → Front) (q : Matching) (ts : List Told) (t : Told) → MeetsAll s w fronts q ts → Meets s w fronts (matching_after s q ts) t.command t.reply t.moment → MeetsAll s w fronts q (ts ++ t ∷ [])
 meets_more s w fronts q [] t h m = (m, tt)
@@ -236,10 +298,7 @@ same_export s w a None None lo hi file fronts h r = refl
 same_export s w a None (Some v) lo hi file fronts h r = absurd h
 same_export s w a (Some c) None lo hi file fronts h r = absurd h
 same_export s w a (Some c) (Some v) lo hi file fronts h r =
-    let b : Begins v.base (fronts v.table).history = begins_trans v.base (a.passes v.table).seen (fronts v.table).history h.2 (r v.table).seen in
-    let e : after (take c.moment (fronts c.table).history) ≡ after v.base =
-    ap (λ (i : ℕ). after (take c.moment (fronts i).history)) h.0 ∙ ap (λ (i : ℕ). after (take i (fronts v.table).history)) h.1 ∙ ap after (take_seen v.base (fronts v.table).history b) in
-    ap (λ (m : Pairs). (file, range m lo hi) ∷ []) e
+    ap (λ (m : Pairs). (file, range m lo hi) ∷ []) (map_then s w a c v fronts h r)
 
 one_export : (s : Setting) (w : ℕ) (q : Matching) (a : Course) (c : Command) (fronts : ℕ → Front) → Agrees w q a → ReachesAll s w a fronts → export_of fronts q c ≡ exported a c
 one_export s w q a (command.Export n lo hi file) fronts g r = same_export s w a (q.clones n) (a.clones n) lo hi file fronts (g.clones n) r

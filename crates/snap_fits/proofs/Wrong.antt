@@ -9,10 +9,10 @@ use Rattle.snap_fits.specs.Wrong.{NewValueFitsNothing, OlderGetFitsNothing, Stal
 use Rattle.snap_fits.proofs.Alone.{alone_answers}
 
 -- the maps after the first put
-abbrev one : Maps
+abbrev pub one : Maps
 one = with_map empty_maps ((7, 5) ∷ [])
 
-first_put : (b : Maps) → WritesMap empty_maps (Put 7 5) put_reply reply.New b → b ≡ one
+pub first_put : (b : Maps) → WritesMap empty_maps (Put 7 5) put_reply reply.New b → b ≡ one
 first_put b h = elim h [ inl x ↦ x.1 | inr x ↦ absurd (let z : reply.New ≡ reply.Full = x.0 in cc) ]
 
 pub new_value : NewValueFitsNothing

@@ -8,7 +8,7 @@ use Rattle.snap_model.specs.declared.command.Command.{Command}
 use Rattle.snap_model.specs.declared.command.Command.TheVariants as command
 use Rattle.snap_model.specs.declared.command.Reply.{Reply}
 use Rattle.snap_model.specs.declared.command.Reply.TheVariants as reply
-use Rattle.snap_fits.specs.Fits.{Setting, Front, WorkerFits, put_reply, remove_reply, value_reply, pair_reply, set_at}
+use Rattle.snap_fits.specs.Fits.{Setting, Front, WorkerFits, CanBeDeep, TellsDepth, put_reply, remove_reply, value_reply, pair_reply, set_at}
 
 -- the map of each table, the table in use, and the copy in each slot
 pub record Maps : Type 0 where
@@ -66,7 +66,7 @@ Answers s a (command.Ceiling n k) r b = Asks a n b (λ map. r ≡ pair_reply (ce
 Answers s a (command.Higher n k) r b = Asks a n b (λ map. r ≡ pair_reply (higher map k))
 Answers s a (command.Count n lo hi) r b = Asks a n b (λ map. r ≡ reply.Count (length (range map lo hi)))
 Answers s a (command.Export n lo hi file) r b = Asks a n b (λ map. r ≡ reply.Exported (length (range map lo hi)))
-Answers s a (command.Depth n) r b = ⊥
+Answers s a (command.Depth n) r b = Asks a n b (λ map. TellsDepth r (length map) (CanBeDeep (length map)))
 
 -- the pairs that a command exports, by its file
 abbrev pub copied_at : Option Pairs → ℕ → ℕ → List ℕ → List (List ℕ × Pairs)

@@ -3,7 +3,7 @@ pub mod Names
 pub mod Stopping
 pub mod Inputs
 pub mod Walking
-pub mod Known
+pub mod Few
 pub mod Made
 pub mod Outputs
 pub mod Endings

@@ -3,7 +3,6 @@ use Rattle.std.proofs.Common.{◌≡◌, ◌≤◌, ◌+◌, ◌*◌, ℕ, zero,
 use Rattle.std.specs.Prelude.{◌≢◌, ◌%◌, ◌/◌, ◌==◌, All, AllPairs, fold, filter_map, nat_lt}
 use Rattle.std.specs.List.{AllByRecursion, cons_option}
 use Rattle.std.specs.Option.{option_to_list}
-use Rattle.std.proofs.lemmas.List.Elements.{All-from_recursion}
 use Rattle.snap_model.specs.declared.command.Command.{Command}
 use Rattle.snap_model.specs.declared.command.Command.TheVariants as command
 use Rattle.snap_text.specs.Clones.{all_free}
@@ -15,7 +14,7 @@ use Rattle.snap_made.specs.Generator.{census, census_after, command_of_kind, fir
 use Rattle.snap_plan.specs.declared.plan.Plan.{Plan}
 use Rattle.snap_plan.specs.Endings.{made_plan}
 use Rattle.snap_plan.specs.Needs.{AllNew, all_commands, commands_of, export_in, load_in, main_table, table_in, tables_named, with_name}
-use Rattle.snap_plan.specs.Runnable.{IsKnown, IsRunnable, IsScript}
+use Rattle.snap_plan.specs.Runnable.{IsRunnable, IsScript}
 use Rattle.snap_words.specs.Words.{most_rows, most_scripts}
 use Rattle.snap_plan.proofs.Names.{tables_differ}
 use Rattle.snap_plan.proofs.Walking.{commands_push}
@@ -25,23 +24,22 @@ record IsPlain (c : Command) : Type 0 where
   table : table_in c ≡ None
   load : load_in c ≡ None
   export : export_in c ≡ None
-  known : IsKnown c
 
 plain_key : (kind key value : ℕ) → IsPlain (command_of_kind kind key value)
 plain_key kind key value = of_tests (nat_lt kind 9) (nat_lt kind 12)
   where
     of_tests : (puts removes : Bool) → IsPlain (cond puts (command.Put key value) (cond removes (command.Remove key) (command.Get key)))
-    of_tests true removes = record { table = refl; load = refl; export = refl; known = tt }
-    of_tests false true = record { table = refl; load = refl; export = refl; known = tt }
-    of_tests false false = record { table = refl; load = refl; export = refl; known = tt }
+    of_tests true removes = record { table = refl; load = refl; export = refl }
+    of_tests false true = record { table = refl; load = refl; export = refl }
+    of_tests false false = record { table = refl; load = refl; export = refl }
 
 plain_census : (n : ℕ) → AllByRecursion IsPlain (census_after n)
 plain_census n = of_test (n % 10_000 == 0)
   where
     of_test : (b : Bool) → AllByRecursion IsPlain (cond b census [])
     of_test true = (
-      record { table = refl; load = refl; export = refl; known = tt },
-      (record { table = refl; load = refl; export = refl; known = tt }, (record { table = refl; load = refl; export = refl; known = tt }, tt)),
+      record { table = refl; load = refl; export = refl },
+      (record { table = refl; load = refl; export = refl }, (record { table = refl; load = refl; export = refl }, tt)),
     )
     of_test false = tt
 
@@ -87,10 +85,6 @@ no_exports : (cs : List Command) → AllByRecursion IsPlain cs → filter_map ex
 no_exports [] plain = refl
 no_exports (c ∷ cs) plain = ap₂ (λ (o : Option (List ℕ)) (ns : List (List ℕ)). cons_option o ns) plain.0.export (no_exports cs plain.1)
 
-known_lines : (lines : List Line) → AllByRecursion IsPlain (commands_of lines) → AllByRecursion (λ (line : Line). IsKnown line.command) lines
-known_lines [] plain = tt
-known_lines (line ∷ lines) plain = (plain.0.known, known_lines lines plain.1)
-
 -- one script more
 pub made_first : (commands seed workers : ℕ) (scripts : List (List Line)) → scripts ≡ [] → scripts ≡ made_scripts commands seed workers 0
 unfolding made_scripts
@@ -108,7 +102,6 @@ made_fits commands seed workers worker script is uses in_range few = record {
   from = inr (record { commands = commands; seed = seed; workers = workers; worker = worker; is = is });
   uses = uses;
   in_range = in_range;
-  known = subst (All (λ (line : Line). IsKnown line.command)) (sym is) (All-from_recursion (λ (line : Line). IsKnown line.command) _ (known_lines (made_script commands seed workers worker) (plain_script commands seed workers worker)));
   few = few;
 }
 

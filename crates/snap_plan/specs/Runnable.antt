@@ -1,8 +1,6 @@
 -- What is known of each plan, so that it can be carried out.
 use Rattle.std.specs.Prelude.{◌≡◌, ◌≢◌, ◌≤◌, ◌⊎◌, ℕ, List, [], ◌++◌, Ok, All, AllPairs, length, map, unwrap_or}
 use Rattle.std.specs.Option.{option_to_list}
-use Rattle.snap_model.specs.declared.command.Command.{Command}
-use Rattle.snap_model.specs.declared.command.Command.TheVariants as command
 use Rattle.snap_text.specs.Clones.{all_free}
 use Rattle.snap_text.specs.Grammar.{HasValueInRange}
 use Rattle.snap_text.specs.LoadFiles.{Loads}
@@ -27,17 +25,11 @@ pub record IsMade (lines : List Line) : Type 0 where
   pub worker : ℕ
   pub is : lines ≡ made_script commands seed workers worker
 
--- of the commands all but one stand in scripts
-abbrev pub IsKnown : Command → Type 0
-IsKnown (command.Depth slot) = ⊥
-IsKnown _ = Unit {0}
-
--- a script: its clones, its values, its commands and its length fit
+-- a script: its clones, its values and its length fit
 pub record IsScript (lines : List Line) : Type 0 where
   pub from : IsOfText lines ⊎ IsMade lines
   pub uses : AllUseSlots all_free lines
   pub in_range : All (λ line. HasValueInRange line.command) lines
-  pub known : All (λ line. IsKnown line.command) lines
   pub few : length lines ≤ most_lines
 
 -- each pair of the load files has a value that a map can hold

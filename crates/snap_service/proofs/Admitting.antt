@@ -1,5 +1,6 @@
 -- What the caller's kit keeps when it admits others and makes its clone.
-use Rattle.std.proofs.Common.{◌≡◌, ◌≢◌, ◌<◌, ◌+◌, ℕ, List, [], ◌∷◌, ◌++◌, length, Option, inl, inr, refl, ap, sym, ◌∙◌, subst, arith}
+use Rattle.std.proofs.Common.{◌≡◌, ◌≢◌, ◌<◌, ◌+◌, ℕ, Bool, List, [], ◌∷◌, ◌++◌, length, Option, inl, inr, refl, ap, sym, ◌∙◌, subst, arith}
+use Rattle.std.specs.Prelude.{◌||◌}
 use native.Mathlib.Decide.{ℕ_discrete}
 use mathlib.Core.Logic.{dite}
 use Rattle.std.proofs.lemmas.List.{get_or-set_same, get_or-set_other, length-set}
@@ -28,6 +29,7 @@ use Rattle.snap_service.specs.Runs.{HasServed}
 use Rattle.snap_service.specs.States.{AreSeated, AreTables, State, Tables, nobody, pass_at, table_at}
 use Rattle.snap_service.proofs.Covered.{covers_all}
 use Rattle.snap_service.proofs.Notes.{handed_grows}
+use Rattle.snap_service.proofs.Tracks.{or_true}
 use Rattle.snap_service.proofs.Using.{seat_cut, seat_set}
 
 in_front : {X : Type 0} (x : X) (xs ys : List X) → In x xs → In x (xs ++ ys)
@@ -45,6 +47,7 @@ joins_new old receipt new h = let is = h.3 in record {
   seen = subst (λ (l : List Entry). Begins receipt.view.seen l) (sym (ap (λ (k : Known). k.view.seen) is)) h.2;
   handed = omega (arith, ap (λ (k : Known). k.view.handed) is);
   epochs = omega (arith, ap (λ (k : Known). k.view.epochs) is);
+  worn = λ e. ap (λ (k : Known). k.view.worn) is ∙ ap (λ (b : Bool). old.view.worn || b) e ∙ or_true old.view.worn;
 }
 
 joins_keeps : (old receipt new other : Known) → Joins old receipt new → SpeaksFor old.view other.view → SpeaksFor new.view other.view
@@ -53,6 +56,7 @@ joins_keeps old receipt new other h x = let is = h.3 in record {
   seen = subst (λ (l : List Entry). Begins other.view.seen l) (sym (ap (λ (k : Known). k.view.seen) is)) (begins_trans other.view.seen old.view.seen h.0 x.seen h.1.goes_on);
   handed = omega (arith, ap (λ (k : Known). k.view.handed) is, x.handed);
   epochs = omega (arith, ap (λ (k : Known). k.view.epochs) is, x.epochs);
+  worn = λ e. ap (λ (k : Known). k.view.worn) is ∙ ap (λ (b : Bool). b || receipt.view.worn) (x.worn e);
 }
 
 pub admits_new : (old receipt new : List Known) → JoinsAll old receipt new → Admits new receipt
@@ -96,6 +100,7 @@ module _ (old : List Known) (clone : Cloned) (new : List Known) (h : IsFinal old
     seen = subst (λ (l : List Entry). Begins w.seen l) (sym c.cut.seen) (begins_trans w.seen (pass_at old 0).view.seen clone.base x.seen c.cut.extends.goes_on);
     handed = omega (arith, x.handed, c.cut.noted.handed, handed_grows (pass_at old 0).view.handed c.cut.more);
     epochs = omega (arith, ap (λ (k : Known). k.view.epochs) is, x.epochs);
+    worn = λ e. ap (λ (k : Known). k.view.worn) is ∙ x.worn e;
   }
 
   pub final_keeps : (other : List Known) → Admits old other → Admits new other

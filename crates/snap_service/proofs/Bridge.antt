@@ -1,12 +1,13 @@
 -- From what a session's command does, by the promises of the tables' calls, to what counts of it.
-use Rattle.std.proofs.Common.{zero, suc, ◌≡◌, ◌≢◌, ◌<◌, ◌-◌, ◌^◌, ℕ, List, [], ◌∷◌, ◌++◌, length, Option, Some, None, get_or, inl, inr, refl, ap, sym, ◌∙◌, subst, arith}
-use Rattle.std.specs.Prelude.{slice_get, slice_set, slice_index_or, unwrap_or, IsSome, take, min}
+use Rattle.std.proofs.Common.{zero, suc, ◌≡◌, ◌≢◌, ◌<◌, ◌≤◌, ◌-◌, ◌^◌, ℕ, true, false, true≢false, List, [], ◌∷◌, ◌++◌, length, Option, Some, None, get_or, inl, inr, refl, ap, sym, ◌∙◌, subst, arith}
+use Rattle.std.specs.Prelude.{slice_get, slice_set, slice_index_or, unwrap_or, IsSome, take, min, ◌⊎◌}
 use Rattle.std.proofs.lemmas.List.{get_or-set_same, get_or-set_other}
 use Rattle.std.proofs.lemmas.Option.{slice_get-get_or}
-use Rattle.snap_fits.specs.Fits.{Setting, put_reply, remove_reply, value_reply, pair_reply}
+use Rattle.snap_fits.specs.Fits.{Setting, TellsDepth, put_reply, remove_reply, value_reply, pair_reply}
 use Rattle.snap_fits.specs.Sessions.{Track, Served, exported}
 use Rattle.snap_fits.specs.Steps as steps
 use Rattle.snap_fits.proofs.Runs.{served_goes_on}
+use Rattle.snap_model.specs.History.{after}
 use Rattle.snap_model.specs.SortedMap.{Pairs, at, first_pair, last_pair, floor, lower, ceiling, higher, count}
 use Rattle.snap_model.specs.declared.call.Call.{Call}
 use Rattle.snap_model.specs.declared.call.Call.TheVariants.{Put, Remove}
@@ -14,14 +15,19 @@ use Rattle.snap_model.specs.declared.command.Command.{Command}
 use Rattle.snap_model.specs.declared.command.Command.TheVariants as command
 use Rattle.snap_model.specs.declared.command.Reply.{Reply}
 use Rattle.snap_model.specs.declared.command.Reply.TheVariants as reply
-use Rattle.snap_steps.specs.Clones.{Cloned}
+use Rattle.snap_rule.specs.Settled.{IsSettledTree}
+use Rattle.snap_steps.specs.Clones.{Cloned, image}
+use Rattle.snap_steps.specs.Copies.{TakesBack}
 use Rattle.snap_steps.specs.Seen.{Known}
-use Rattle.snap_service.specs.Courses.{course, kept, setting, track, track_of}
+use Rattle.snap_view.specs.Balances.{TellsBalance}
+use Rattle.snap_view.specs.declared.balance.Settled.{Settled}
+use Rattle.snap_view.specs.declared.balance.Settled.TheVariants.{Yes, RowsOut, StampOut}
+use Rattle.snap_service.specs.Courses.{course, kept, kept_of, setting, track, track_of}
 use Rattle.snap_text.specs.LoadFiles.{Loads, pairs_of}
 use Rattle.snap_service.specs.Runs.{ServesOn}
-use Rattle.snap_service.specs.Serving.{CanRun, Loaded, Serves, Wrote, map_in}
-use Rattle.snap_service.specs.States.{State, IsWellFormed, clone_at, nobody, pass_in_use, place_of, with_pass, with_slot}
-use Rattle.snap_service.proofs.Tracks.{cut, put_all, read, refused, wrote}
+use Rattle.snap_service.specs.Serving.{CanRun, Loaded, Measured, Measures, Serves, Wrote, is_yes, map_in}
+use Rattle.snap_service.specs.States.{State, FitsSlot, IsWellFormed, clone_at, nobody, pass_at, pass_in_use, place_of, with_pass, with_pass_at, with_slot}
+use Rattle.snap_service.proofs.Tracks.{cut, learnt, put_all, read, refused, worn_learnt, wrote}
 
 get_set_other : {X : Type 0} (xs : List X) (i j : ℕ) (x : X) → j ≢ i → slice_get (slice_set xs i x) j ≡ slice_get xs j
 get_set_other [] i j x n = refl
@@ -35,22 +41,59 @@ get_set_same [] i x l = absurd (omega (arith, l))
 get_set_same (y ∷ xs) zero x l = refl
 get_set_same (y ∷ xs) (suc i) x l = get_set_same xs i x (omega (arith, l))
 
-module _ (w : ℕ) (a : State) (pass : Known) (within : a.in_use < length a.passes) where
-  here_old : (course w a).passes a.in_use ≡ track_of (pass_in_use a)
-  here_old = ap (track w) (slice_get-get_or a.passes a.in_use nobody within)
+module _ (w : ℕ) (a : State) (place : ℕ) (pass : Known) (within : place < length a.passes) where
+  here_old : (course w a).passes place ≡ track_of (pass_at a.passes place)
+  here_old = ap (track w) (slice_get-get_or a.passes place nobody within)
 
-  here_new : (course w (with_pass a pass)).passes a.in_use ≡ track_of pass
-  here_new = ap (track w) (get_set_same a.passes a.in_use pass within)
+  here_new : (course w (with_pass_at a place pass)).passes place ≡ track_of pass
+  here_new = ap (track w) (get_set_same a.passes place pass within)
 
-  there : (t : ℕ) → t ≢ a.in_use → (course w (with_pass a pass)).passes t ≡ (course w a).passes t
-  there t n = ap (track w) (get_set_other a.passes a.in_use t pass n)
+  there : (t : ℕ) → t ≢ place → (course w (with_pass_at a place pass)).passes t ≡ (course w a).passes t
+  there t n = ap (track w) (get_set_other a.passes place t pass n)
 
-  on_pass : (P : Track → Track → Type 0) → P (track_of (pass_in_use a)) (track_of pass) → steps.OnPass (course w a) (course w (with_pass a pass)) P
-  on_pass P h = record {
-    here = subst (λ (x : Track). P x ((course w (with_pass a pass)).passes a.in_use)) (sym here_old) (subst (λ (x : Track). P (track_of (pass_in_use a)) x) (sym here_new) h);
-    others = there;
-    in_use = refl;
-  }
+  here : (P : Track → Track → Type 0) → P (track_of (pass_at a.passes place)) (track_of pass) → P ((course w a).passes place) ((course w (with_pass_at a place pass)).passes place)
+  here P h = subst (λ (x : Track). P x ((course w (with_pass_at a place pass)).passes place)) (sym here_old) (subst (λ (x : Track). P (track_of (pass_at a.passes place)) x) (sym here_new) h)
+
+on_pass : (w : ℕ) (a : State) (pass : Known) → a.in_use < length a.passes → (P : Track → Track → Type 0) → P (track_of (pass_in_use a)) (track_of pass) → steps.OnPass (course w a) (course w (with_pass a pass)) P
+on_pass w a pass within P h = record { here = here w a a.in_use pass within P h; others = there w a a.in_use pass within; in_use = refl }
+
+-- the depth of a clone
+is_settled : (old new : Cloned) (balance : Settled) → TellsBalance old new balance → is_yes balance ≡ true → IsSettledTree (image old)
+is_settled old new Yes t e = t.0
+is_settled old new (RowsOut rows) t e = absurd (true≢false (sym e))
+is_settled old new (StampOut row) t e = absurd (true≢false (sym e))
+
+why_not : (rows : ℕ) (old new : Cloned) (p k : Known) (balance : Settled) → old.rows ≡ rows → TellsBalance old new balance → TakesBack p k new → is_yes balance ≡ false → (rows ≤ old.next) ⊎ (k.view.worn ≡ true)
+why_not rows old new p k Yes is t back e = absurd (true≢false e)
+why_not rows old new p k (RowsOut n) is t back e = inl (let all = t.1 in omega (arith, all, is))
+why_not rows old new p k (StampOut row) is t back e = inr (worn_learnt p k new back (ap (λ (c : Cloned). c.worn) t.4))
+
+deep_told : (s : Setting) (live : ℕ × Cloned) (asked : Cloned) (old pass : Known) (r : Reply) → live.1.rows ≡ s.rows → Measures live.1 asked r → TakesBack old pass asked → TellsDepth r (length (after live.1.base)) (steps.Deep s (kept_of live) (track_of pass))
+deep_told s live asked old pass r rows m back = (
+  m.deep,
+  is_yes m.balance,
+  m.reply,
+  record {
+    can = record { many = m.many; shallow = λ e. m.shallow (is_settled live.1 asked m.balance m.tells e) };
+    low = m.low;
+    cause = why_not s.rows live.1 asked old pass m.balance rows m.tells back;
+  },
+)
+
+measured_step : (w : ℕ) (loads : Loads) (a b : State) (c : Option (ℕ × Cloned)) (r : Reply) → IsWellFormed a → FitsSlot a.tables c → Measured c a r b → steps.DepthAnswers (setting a.tables loads) (course w a) (kept c) r (course w b) × steps.SameClones (course w a) (course w b)
+measured_step w loads a b None r ok fits h = absurd h
+measured_step w loads a b (Some live) r ok fits h =
+    let within : live.0 < length a.passes = omega (arith, fits.within, ok.seated.a_pass_each) in
+    let rows : live.1.rows ≡ a.tables.rows = fits.at.1 ∙ ok.service.rows_are live.0 fits.within in
+    let new : State = with_pass_at a live.0 h.1 in
+    let told : TellsDepth r (length (after live.1.base)) (steps.Deep (setting a.tables loads) (kept_of live) (track_of h.1)) = deep_told (setting a.tables loads) live h.0 (pass_at a.passes live.0) h.1 r rows h.3 h.4 in
+    subst (λ (s : State). steps.DepthAnswers (setting a.tables loads) (course w a) (kept (Some live)) r (course w s) × steps.SameClones (course w a) (course w s)) (sym h.2) (
+      (
+        record { here = here w a live.0 h.1 within steps.Learns (learnt (pass_at a.passes live.0) h.1 h.0 h.4); others = there w a live.0 h.1 within; in_use = refl },
+        subst (λ (x : Track). TellsDepth r (length (after live.1.base)) (steps.Deep (setting a.tables loads) (kept_of live) x)) (sym (here_new w a live.0 h.1 within)) told,
+      ),
+      λ n. refl,
+    )
 
 wrote_step : (rows : ℕ) (call : Call) (reply_of : Option ℕ → Reply) (old new : Known) (r : Reply) → Wrote rows call reply_of old r new → steps.WriteAnswers rows call reply_of r (track_of old) (track_of new)
 wrote_step rows call reply_of old new r (inl h) = inl (h.0, h.1, wrote old new call h.0 h.2)
@@ -113,7 +156,8 @@ stepped w loads a b (command.Snap slot name) r ok can h =
     subst (λ (s : State). steps.Steps (setting a.tables loads) (course w a) (command.Snap slot name) r (course w s)) (sym h.3) (
       h.0,
       h.2.base,
-      (let x = on_pass w a h.1 ok.a_table_in_use (λ old new. steps.Cuts old new h.2.base) (cut (pass_in_use a) h.1 h.2 h.4) in record { here = x.here; others = x.others; in_use = refl }),
+      h.2.next,
+      (let x = on_pass w a h.1 ok.a_table_in_use (λ old new. steps.Cuts old new h.2.base h.2.next) (cut (pass_in_use a) h.1 h.2 h.4) in record { here = x.here; others = x.others; in_use = refl }),
       slot_set w a after slot (Some (a.in_use, h.2)) (let f = can.0 in omega (arith, f, ok.a_place_each)) refl,
     )
 stepped w loads a b (command.Forget slot name) r ok can h =
@@ -128,7 +172,11 @@ stepped w loads a b (command.Ceiling slot key) r ok can h = (same w a b h.0, ask
 stepped w loads a b (command.Higher slot key) r ok can h = (same w a b h.0, asked (clone_at a slot) (λ map. r ≡ pair_reply (higher map key)) can h.1)
 stepped w loads a b (command.Count slot lo hi) r ok can h = (same w a b h.0, asked (clone_at a slot) (λ map. r ≡ reply.Count (min (count map lo hi) (2 ^ 64 - 1))) can h.1)
 stepped w loads a b (command.Export slot lo hi file) r ok can h = (same w a b h.0, asked (clone_at a slot) (λ map. r ≡ reply.Exported (count map lo hi)) can h.1)
-stepped w loads a b (command.Depth slot) r ok can h = absurd h
+stepped w loads a b (command.Depth slot) r ok can h = measured_step w loads a b (clone_at a slot) r ok (ok.clones slot) h
+
+measured_tables : (a b : State) (c : Option (ℕ × Cloned)) (r : Reply) → Measured c a r b → b.tables ≡ a.tables
+measured_tables a b None r h = absurd h
+measured_tables a b (Some live) r h = ap (λ (s : State). s.tables) h.2
 
 pub tables_stay : (loads : Loads) (a b : State) (c : Command) (r : Reply) → Serves loads a c r b → b.tables ≡ a.tables
 tables_stay loads a b (command.Table name) r h = ap (λ (s : State). s.tables) h.1
@@ -147,7 +195,7 @@ tables_stay loads a b (command.Ceiling slot key) r h = ap (λ (s : State). s.tab
 tables_stay loads a b (command.Higher slot key) r h = ap (λ (s : State). s.tables) h.0
 tables_stay loads a b (command.Count slot lo hi) r h = ap (λ (s : State). s.tables) h.0
 tables_stay loads a b (command.Export slot lo hi file) r h = ap (λ (s : State). s.tables) h.0
-tables_stay loads a b (command.Depth slot) r h = absurd h
+tables_stay loads a b (command.Depth slot) r h = measured_tables a b (clone_at a slot) r h
 
 pub serves_on : (loads : Loads) (a b : State) (c : Command) (r : Reply) → IsWellFormed a → CanRun a loads c → Serves loads a c r b → ServesOn loads a c r b
 serves_on loads a b c r ok can h w cs rs es v =

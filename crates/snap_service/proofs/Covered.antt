@@ -113,6 +113,7 @@ covers_one tables loads w p k f c sp number passing rows passes own noted =
         cuts = begins_is p.view.cuts (cuts_of k.view w) (sym cuts);
         handed = omega (arith, sp.handed, c.handed);
         epochs = λ h. has_cut k.view f k refl c passing tables.kits own passes (theirs h);
+        worn = sp.worn;
         rows = omega (arith, c.drawn, rows);
         few = c.few;
       };
@@ -122,7 +123,7 @@ covers_one tables loads w p k f c sp number passing rows passes own noted =
 
 covers_none : (tables : Tables) (loads : Loads) (w : ℕ) → Covers (setting tables loads) w (track w None) (front_of None)
 covers_none tables loads w = record {
-  reaches = record { seen = begins_refl []; cuts = begins_refl []; handed = omega arith; epochs = λ h. absurd (omega (arith, h)); rows = omega arith; few = omega arith };
+  reaches = record { seen = begins_refl []; cuts = begins_refl []; handed = omega arith; epochs = λ h. absurd (omega (arith, h)); worn = λ e. e; rows = omega arith; few = omega arith };
   mine = refl;
   cuts = refl;
 }

@@ -1,20 +1,39 @@
 -- A session on a new kit has met no commands.
 use Rattle.std.specs.Prelude.{replicate, slice_get, slice_index_or}
-use Rattle.std.proofs.Common.{zero, suc, ◌≡◌, ℕ, List, [], ◌∷◌, None, refl, ap, sym, ◌∙◌, subst}
+use Rattle.std.proofs.Common.{zero, suc, ◌≡◌, ℕ, false, List, [], ◌∷◌, length, Option, None, arith, refl, ap, sym, ◌∙◌, subst}
 use Rattle.snap_fits.specs.Sessions.{Track}
 use Rattle.snap_fits.proofs.Runs.{served_begins}
+use Rattle.snap_steps.specs.Clones.{Cloned}
 use Rattle.snap_steps.specs.Seen.{Known, Laid}
 use Rattle.snap_service.specs.Courses.{course, kept, setting, track}
 use Rattle.snap_service.specs.Runs.{HasServed, IsFresh}
-use Rattle.snap_service.specs.States.{State, Tables, new_kit, opened}
+use Rattle.snap_service.specs.States.{AreSeated, AreTables, FitsSlot, IsWellFormed, State, Tables, free_slots, new_kit, opened}
 
 none_kept : (n i : ℕ) → kept (slice_index_or (replicate n None) i None) ≡ None
 none_kept zero i = refl
 none_kept (suc n) zero = refl
 none_kept (suc n) (suc i) = none_kept n i
 
+none_fits : (tables : Tables) (n i : ℕ) → FitsSlot tables (slice_index_or (replicate n None) i None)
+none_fits tables zero i = tt
+none_fits tables (suc n) zero = tt
+none_fits tables (suc n) (suc i) = none_fits tables n i
+
+places_free : (n : ℕ) → (let free : List (Option (ℕ × Cloned)) = replicate n None in length free ≡ n)
+places_free zero = refl
+places_free (suc n) = ap suc (places_free n)
+
+pub well_opened : (tables : Tables) (kit : List Known) (clones : List (Option (ℕ × Cloned))) → AreTables tables → AreSeated tables kit → clones ≡ free_slots → (let s : State = record { tables = tables; passes = kit; in_use = 0; clones = clones } in IsWellFormed s)
+well_opened tables kit clones ok seated free = record {
+  service = ok;
+  seated = seated;
+  a_table_in_use = omega (arith, ok.a_table, seated.a_pass_each);
+  a_place_each = ap length free ∙ places_free 64;
+  clones = λ i. subst (λ (cs : List (Option (ℕ × Cloned))). FitsSlot tables (slice_index_or cs i None)) (sym free) (none_fits tables 64 i);
+}
+
 abbrev pub new_track : ℕ → Track
-new_track w = record { who = w; seen = []; mine = []; handed = 0; epochs = 0; cuts = [] }
+new_track w = record { who = w; seen = []; mine = []; handed = 0; epochs = 0; cuts = []; worn = false }
 
 new_at : (w : ℕ) (laid : List Laid) (t : ℕ) → track w (slice_get (new_kit laid w) t) ≡ new_track w
 new_at w [] t = refl

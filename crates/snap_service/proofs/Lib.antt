@@ -6,6 +6,7 @@ pub mod Using
 pub mod Ending
 pub mod Admitting
 pub mod Uses
+pub mod Measuring
 pub mod Fresh
 pub mod Opening
 pub mod Slots

@@ -8,8 +8,8 @@ use Rattle.snap_model.specs.declared.command.Reply.{Reply}
 use Rattle.snap_steps.specs.Clones.{Cloned}
 use Rattle.snap_steps.specs.Seen.{Known}
 use Rattle.snap_text.specs.LoadFiles.{Loads, HasFile, pairs_of}
-use Rattle.snap_service.specs.States.{State, free_slots, place_of, slots, with_pass, with_slot, with_use}
-use Rattle.snap_service.specs.Serving.{CanRun, FitsValue, Serves}
+use Rattle.snap_service.specs.States.{State, clone_at, free_slots, place_of, slots, with_pass, with_pass_at, with_slot, with_use}
+use Rattle.snap_service.specs.Serving.{CanRun, FitsValue, Measured, Serves}
 use Rattle.snap_service.specs.Runs.{CanRunAll}
 
 -- of each slot, whether it is taken
@@ -60,7 +60,6 @@ abbrev pub IsServed : List (List ℕ) → Loads → Command → Type 0
 IsServed names loads (command.Table name) = IsSome (place_of names name)
 IsServed names loads (command.Put key value) = FitsValue value
 IsServed names loads (command.Load file) = HasFile loads file × All (λ (pair : ℕ × ℕ). FitsValue pair.1) (pairs_of loads file)
-IsServed names loads (command.Depth slot) = ⊥
 IsServed names loads _ = Unit {0}
 
 abbrev pub AllServed : List (List ℕ) → Loads → List Command → Type 0
@@ -93,7 +92,7 @@ can_run s loads (command.Lower slot key) places fits served = marked s.clones sl
 can_run s loads (command.Ceiling slot key) places fits served = marked s.clones slot fits
 can_run s loads (command.Higher slot key) places fits served = marked s.clones slot fits
 can_run s loads (command.Count slot lo hi) places fits served = marked s.clones slot fits
-can_run s loads (command.Depth slot) places fits served = absurd served
+can_run s loads (command.Depth slot) places fits served = marked s.clones slot fits
 can_run s loads (command.Export slot lo hi file) places fits served = marked s.clones slot fits
 can_run s loads (command.Load file) places fits served = served
 
@@ -106,8 +105,8 @@ record Leaves (a b : State) (marks : List Bool) : Type 0 where
 all_stay : (a : State) → Leaves a a (taken a.clones)
 all_stay a = record { marks_are = refl; places = refl; names = refl }
 
-pass_leaves : (a : State) (pass : Known) → Leaves a (with_pass a pass) (taken a.clones)
-pass_leaves a pass = record { marks_are = refl; places = refl; names = refl }
+pass_leaves : (a : State) (t : ℕ) (pass : Known) → Leaves a (with_pass_at a t pass) (taken a.clones)
+pass_leaves a t pass = record { marks_are = refl; places = refl; names = refl }
 
 use_leaves : (a : State) (name : List ℕ) → Leaves a (with_use a name) (taken a.clones)
 use_leaves a name = record { marks_are = refl; places = refl; names = refl }
@@ -115,11 +114,15 @@ use_leaves a name = record { marks_are = refl; places = refl; names = refl }
 left_by : (a b made : State) (marks : List Bool) → b ≡ made → Leaves a made marks → Leaves a b marks
 left_by a b made marks is h = subst (λ (s : State). Leaves a s marks) (sym is) h
 
+measured_leaves : (a b : State) (c : Option (ℕ × Cloned)) (r : Reply) → Measured c a r b → Leaves a b (taken a.clones)
+measured_leaves a b None r h = absurd h
+measured_leaves a b (Some live) r h = left_by a b (with_pass_at a live.0 h.1) (taken a.clones) h.2 (pass_leaves a live.0 h.1)
+
 leaves : (a : State) (loads : Loads) (c : Command) (r : Reply) (b : State) → Serves loads a c r b → Leaves a b (taken_after (taken a.clones) c)
 leaves a loads (command.Table name) r b h = left_by a b (with_use a name) (taken a.clones) h.1 (use_leaves a name)
-leaves a loads (command.Put key value) r b h = left_by a b (with_pass a h.0) (taken a.clones) h.1 (pass_leaves a h.0)
-leaves a loads (command.Remove key) r b h = left_by a b (with_pass a h.0) (taken a.clones) h.1 (pass_leaves a h.0)
-leaves a loads (command.Get key) r b h = left_by a b (with_pass a h.0) (taken a.clones) h.1 (pass_leaves a h.0)
+leaves a loads (command.Put key value) r b h = left_by a b (with_pass a h.0) (taken a.clones) h.1 (pass_leaves a a.in_use h.0)
+leaves a loads (command.Remove key) r b h = left_by a b (with_pass a h.0) (taken a.clones) h.1 (pass_leaves a a.in_use h.0)
+leaves a loads (command.Get key) r b h = left_by a b (with_pass a h.0) (taken a.clones) h.1 (pass_leaves a a.in_use h.0)
 leaves a loads (command.Snap slot name) r b h =
     let some : Option (ℕ × Cloned) = Some (a.in_use, h.2) in
     left_by a b (with_slot (with_pass a h.1) slot some) (slice_set (taken a.clones) slot true) h.3 (record { marks_are = map-set is_some a.clones slot some; places = length-set a.clones slot some; names = refl })
@@ -132,9 +135,9 @@ leaves a loads (command.Lower slot key) r b h = left_by a b a (taken a.clones) h
 leaves a loads (command.Ceiling slot key) r b h = left_by a b a (taken a.clones) h.0 (all_stay a)
 leaves a loads (command.Higher slot key) r b h = left_by a b a (taken a.clones) h.0 (all_stay a)
 leaves a loads (command.Count slot lo hi) r b h = left_by a b a (taken a.clones) h.0 (all_stay a)
-leaves a loads (command.Depth slot) r b h = absurd h
+leaves a loads (command.Depth slot) r b h = measured_leaves a b (clone_at a slot) r h
 leaves a loads (command.Export slot lo hi file) r b h = left_by a b a (taken a.clones) h.0 (all_stay a)
-leaves a loads (command.Load file) r b h = left_by a b (with_pass a h.0) (taken a.clones) h.1 (pass_leaves a h.0)
+leaves a loads (command.Load file) r b h = left_by a b (with_pass a h.0) (taken a.clones) h.1 (pass_leaves a a.in_use h.0)
 
 -- commands that fit the slots, and that are served, can all be run
 pub can_run_all : (s : State) (loads : Loads) (cs : List Command) → length s.clones ≡ slots → AllFitSlots (taken s.clones) cs → AllServed s.tables.names loads cs → CanRunAll s loads cs

@@ -1,6 +1,6 @@
 -- What the calls of a table do to what counts of a pass.
-use Rattle.std.specs.Prelude.{◌⊎◌}
-use Rattle.std.proofs.Common.{◌≡◌, ◌≤◌, ◌<◌, ◌+◌, ℕ, List, [], ◌∷◌, ◌++◌, length, Option, inl, inr, refl, ap, sym, ◌∙◌, subst, arith, append_assoc, length-append}
+use Rattle.std.specs.Prelude.{◌⊎◌, ◌||◌}
+use Rattle.std.proofs.Common.{◌≡◌, ◌≤◌, ◌<◌, ◌+◌, ℕ, Bool, true, false, List, [], ◌∷◌, ◌++◌, length, Option, inl, inr, refl, ap, sym, ◌∙◌, subst, arith, append_assoc, length-append}
 use Rattle.snap_fits.specs.Fits.{IsNewKey, made_by}
 use Rattle.snap_fits.specs.Steps as steps
 use Rattle.snap_fits.proofs.Prefixes.{begins_is, begins_length}
@@ -12,6 +12,7 @@ use Rattle.snap_model.specs.declared.call.Entry.{Entry}
 use Rattle.snap_search.specs.Answers.{Reads}
 use Rattle.snap_search.specs.Walk.{SeesMore}
 use Rattle.snap_steps.specs.Clones.{Cloned}
+use Rattle.snap_steps.specs.Copies.{TakesBack}
 use Rattle.snap_steps.specs.Seen.{Known}
 use Rattle.snap_steps.specs.declared.view.View.{View}
 use Rattle.snap_steps.specs.declared.view.WordNote.{WordNote}
@@ -43,6 +44,7 @@ wrote old new call was h =
         handed = omega (arith, h.noted.handed, handed_grows old.view.handed h.more);
         epochs = omega (arith, h.noted.epochs, epochs_grow old.view.epochs h.more);
         cuts = begins_is old.view.cuts new.view.cuts (sym cuts);
+        worn = h.noted.worn;
       };
       longer = omega arith;
       last = record { before = h.log; is = h.seen };
@@ -80,6 +82,7 @@ refused rows old new call h =
         handed = omega (arith, h.noted.handed, handed_grows old.view.handed h.more);
         epochs = omega (arith, h.noted.epochs, epochs_grow old.view.epochs h.more);
         cuts = begins_is old.view.cuts new.view.cuts (sym cuts);
+        worn = h.noted.worn;
       };
       mine = h.mine;
       cuts = cuts;
@@ -103,13 +106,14 @@ read old new key answer h =
         handed = omega arith;
         epochs = omega arith;
         cuts = begins_is old.view.cuts new.view.cuts (sym cuts);
+        worn = λ e. ap (λ (k : Known). k.view.worn) h.is ∙ e;
       };
       mine = mine;
       cuts = cuts;
       told = h.tells;
     }
 
-pub cut : (old new : Known) (clone : Cloned) → Cuts old new clone → steps.Cuts (track_of old) (track_of new) clone.base
+pub cut : (old new : Known) (clone : Cloned) → Cuts old new clone → steps.Cuts (track_of old) (track_of new) clone.base clone.next
 cut old new clone c =
     let h = c.cut in
     let who : new.view.who ≡ old.view.who = ap (λ (k : Known). k.view.who) h.is in
@@ -123,11 +127,42 @@ cut old new clone c =
         handed = omega (arith, h.noted.handed, handed_grows old.view.handed h.more);
         epochs = omega arith;
         cuts = record { rest = length clone.base ∷ []; is = sym h.cuts };
+        worn = λ e. ap (λ (k : Known). k.view.worn) h.is ∙ e;
       };
       whole = h.seen;
+      handed = omega (arith, h.noted.handed, in_handed old.view.handed clone.next h.more h.loaded);
       mine = mine;
       cuts = h.cuts;
     }
+
+-- a view was given back
+pub learnt : (old new : Known) (clone : Cloned) → TakesBack old new clone → steps.Learns (track_of old) (track_of new)
+learnt old new clone h =
+    let is = h.pass in
+    let who : new.view.who ≡ old.view.who = ap (λ (k : Known). k.view.who) is in
+    let mine : new.view.mine ≡ old.view.mine = ap (λ (k : Known). k.view.mine) is in
+    let cuts : new.view.cuts ≡ old.view.cuts = ap (λ (k : Known). k.view.cuts) is in
+    let seen : new.view.seen ≡ h.seen = ap (λ (k : Known). k.view.seen) is in
+    record {
+      on = record {
+        who = who;
+        own = λ _. ap (λ (i : ℕ). calls_of new.view.seen i) who ∙ ap (λ (l : List Entry). calls_of l old.view.who) seen ∙ h.extends.own ∙ sym mine;
+        seen = subst (λ (l : List Entry). Begins old.view.seen l) (sym seen) h.extends.goes_on;
+        handed = omega (arith, ap (λ (k : Known). k.view.handed) is);
+        epochs = omega (arith, ap (λ (k : Known). k.view.epochs) is);
+        cuts = begins_is old.view.cuts new.view.cuts (sym cuts);
+        worn = λ e. ap (λ (k : Known). k.view.worn) is ∙ ap (λ (b : Bool). b || clone.worn) e;
+      };
+      mine = mine;
+      cuts = cuts;
+    }
+
+pub or_true : (b : Bool) → (b || true) ≡ true
+or_true true = refl
+or_true false = refl
+
+pub worn_learnt : (old new : Known) (clone : Cloned) → TakesBack old new clone → clone.worn ≡ true → new.view.worn ≡ true
+worn_learnt old new clone h e = ap (λ (k : Known). k.view.worn) h.pass ∙ ap (λ (b : Bool). old.view.worn || b) e ∙ or_true old.view.worn
 
 pub put_all : (old : Known) (xs : Pairs) (new : Known) → PutAll old xs new → steps.PutsAll (track_of old) xs (track_of new)
 put_all old [] new h = ap track_of h

@@ -1,6 +1,6 @@
 -- How much one command adds to the uses of a session's passes.
 use Rattle.std.specs.Prelude.{slice_set}
-use Rattle.std.proofs.Common.{zero, suc, ◌≡◌, ◌≤◌, ◌<◌, ◌+◌, ◌^◌, ℕ, List, [], ◌∷◌, length, get_or, take, inl, inr, ap, sym, ◌∙◌, subst, arith}
+use Rattle.std.proofs.Common.{zero, suc, ◌≡◌, ◌≤◌, ◌<◌, ◌+◌, ◌^◌, ℕ, List, [], ◌∷◌, length, get_or, take, Option, Some, None, inl, inr, ap, sym, ◌∙◌, subst, arith}
 use Rattle.std.proofs.lemmas.List.{length-take}
 use Rattle.std.proofs.lemmas.Option.{slice_get_within}
 use Rattle.snap_model.specs.SortedMap.{Pairs}
@@ -8,10 +8,11 @@ use Rattle.snap_model.specs.declared.call.Call.{Call}
 use Rattle.snap_model.specs.declared.command.Command.{Command}
 use Rattle.snap_model.specs.declared.command.Command.TheVariants as command
 use Rattle.snap_model.specs.declared.command.Reply.{Reply}
+use Rattle.snap_steps.specs.Clones.{Cloned}
 use Rattle.snap_steps.specs.Seen.{Known}
 use Rattle.snap_text.specs.LoadFiles.{Loads, pairs_of}
-use Rattle.snap_service.specs.Serving.{Loaded, PutAll, Serves, Wrote}
-use Rattle.snap_service.specs.States.{IsWellFormed, State, most_uses, nobody, pass_in_use}
+use Rattle.snap_service.specs.Serving.{Loaded, Measured, PutAll, Serves, Wrote}
+use Rattle.snap_service.specs.States.{FitsSlot, IsWellFormed, State, clone_at, most_uses, nobody, pass_at, pass_in_use}
 
 uses_at : (ps : List Known) (i : ℕ) → i < length ps → (get_or ps i nobody).view.uses ≤ most_uses ps
 uses_at [] i l = absurd (omega (arith, l))
@@ -35,9 +36,16 @@ loaded_uses : (rows : ℕ) (pairs : Pairs) (old : Known) (r : Reply) (new : Know
 loaded_uses rows pairs old r new (inl h) = omega (arith, put_uses old pairs new h.1)
 loaded_uses rows pairs old r new (inr h) = let y = h.6 in omega (arith, put_uses old (take h.0 pairs) h.4 h.5, length-take h.0 pairs, slice_get_within pairs h.0 h.1 h.3, ap (λ (k : Known). k.view.uses) y.is)
 
+set_uses_at : (a b : State) (t : ℕ) (pass : Known) (n : ℕ) → t < length a.passes → b.passes ≡ slice_set a.passes t pass → pass.view.uses ≤ (pass_at a.passes t).view.uses + n → most_uses b.passes ≤ most_uses a.passes + n
+set_uses_at a b t pass n within is up = subst (λ (ps : List Known). most_uses ps ≤ most_uses a.passes + n) (sym is) (most_set a.passes t pass (most_uses a.passes + n) (omega arith) (omega (arith, up, uses_at a.passes t within)))
+
 module _ (a b : State) (ok : IsWellFormed a) (pass : Known) (n : ℕ) (is : b.passes ≡ slice_set a.passes a.in_use pass) (up : pass.view.uses ≤ (pass_in_use a).view.uses + n) where
   set_uses : most_uses b.passes ≤ most_uses a.passes + n
-  set_uses = subst (λ (ps : List Known). most_uses ps ≤ most_uses a.passes + n) (sym is) (most_set a.passes a.in_use pass (most_uses a.passes + n) (omega arith) (omega (arith, up, uses_at a.passes a.in_use ok.a_table_in_use)))
+  set_uses = set_uses_at a b a.in_use pass n ok.a_table_in_use is up
+
+measured_uses : (a b : State) (c : Option (ℕ × Cloned)) (r : Reply) → length a.passes ≡ length a.tables.laid → FitsSlot a.tables c → Measured c a r b → most_uses b.passes ≤ most_uses a.passes + 0
+measured_uses a b None r all fits h = absurd h
+measured_uses a b (Some live) r all fits h = set_uses_at a b live.0 h.1 0 (let l = fits.within in omega (arith, l, all)) (ap (λ (s : State). s.passes) h.2) (let x = h.4 in omega (arith, ap (λ (k : Known). k.view.uses) x.pass))
 
 same_uses : (a b : State) → b.passes ≡ a.passes → most_uses b.passes ≤ most_uses a.passes + 2 ^ 22
 same_uses a b e = omega (arith, ap most_uses e)
@@ -59,4 +67,4 @@ uses_after loads a b (command.Ceiling slot key) r ok few h = same_uses a b (ap (
 uses_after loads a b (command.Higher slot key) r ok few h = same_uses a b (ap (λ (s : State). s.passes) h.0)
 uses_after loads a b (command.Count slot lo hi) r ok few h = same_uses a b (ap (λ (s : State). s.passes) h.0)
 uses_after loads a b (command.Export slot lo hi file) r ok few h = same_uses a b (ap (λ (s : State). s.passes) h.0)
-uses_after loads a b (command.Depth slot) r ok few h = absurd h
+uses_after loads a b (command.Depth slot) r ok few h = omega (arith, measured_uses a b (clone_at a slot) r ok.seated.a_pass_each (ok.clones slot) h)

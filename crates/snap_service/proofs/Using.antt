@@ -1,7 +1,7 @@
 -- A call on the table in use.
 use Rattle.std.specs.Prelude.{◌⊎◌, slice_get, slice_set, IfOk, OnErr, MatchResult, is_err}
 use Rattle.std.proofs.lemmas.Option.{slice_get-get_or}
-use Rattle.std.proofs.Common.{zero, suc, ◌≡◌, ◌≤◌, ◌<◌, ℕ, List, [], ◌∷◌, ◌++◌, length, get_or, take, true, false, Result, Ok, Err, Option, Some, inl, inr, refl, ap, sym, ◌∙◌, subst, arith}
+use Rattle.std.proofs.Common.{zero, suc, ◌≡◌, ◌≤◌, ◌<◌, ℕ, List, [], ◌∷◌, ◌++◌, length, get_or, take, true, false, Result, Ok, Err, Option, Some, None, inl, inr, refl, ap, sym, ◌∙◌, subst, arith}
 use native.Mathlib.Decide.{ℕ_discrete}
 use mathlib.Core.Logic.{dite}
 use Rattle.std.proofs.lemmas.List.{set-get_or, get_or_read, get_or-set_same, get_or-set_other, length-set}
@@ -13,11 +13,12 @@ use Rattle.snap_model.specs.declared.command.Reply.{Reply}
 use Rattle.snap_model.specs.declared.command.Reply.TheVariants as reply
 use Rattle.snap_search.specs.Answers.{Reads}
 use Rattle.snap_steps.specs.Clones.{Cloned}
+use Rattle.snap_steps.specs.Copies.{TakesBack}
 use Rattle.snap_steps.specs.Seen.{Known, Laid}
 use Rattle.snap_table.specs.Calls.{Replies, Refuses}
 use Rattle.snap_table.specs.Clones.{Cuts}
-use Rattle.snap_service.specs.Serving.{Loaded, PutAll, Wrote}
-use Rattle.snap_service.specs.States.{AreSeated, IsSeated, IsWellFormed, State, Tables, most_uses, nobody, nowhere, pass_at, pass_in_use, table_at, with_pass, with_slot}
+use Rattle.snap_service.specs.Serving.{Loaded, Measured, Measures, PutAll, Wrote}
+use Rattle.snap_service.specs.States.{AreSeated, FitsSlot, clone_at, IsCloneIn, IsSeated, IsWellFormed, State, Tables, most_uses, nobody, nowhere, pass_at, pass_in_use, slots, table_at, with_pass, with_pass_at, with_slot}
 
 pub uses_le : (ps : List Known) (i : ℕ) (p : Known) → i < length ps → p ≡ get_or ps i p → p.view.uses ≤ most_uses ps
 uses_le [] i p l e = absurd (omega (arith, l))
@@ -118,13 +119,55 @@ if_ok (Err b) P Q f h = h
 pub set_same : {X : Type 0} (xs : List X) (i : ℕ) (x y : X) → y ≡ x → x ≡ get_or xs i x → slice_set xs i y ≡ xs
 set_same xs i x y e v = ap (slice_set xs i) (e ∙ v) ∙ set-get_or xs i x
 
-pub well_set : (s : State) (p : Known) → IsWellFormed s → IsSeated (table_at s.tables s.in_use) p → IsWellFormed (with_pass s p)
-well_set s p ok x = record {
+pub well_set_at : (s : State) (t : ℕ) (p : Known) → IsWellFormed s → t < length s.passes → IsSeated (table_at s.tables t) p → IsWellFormed (with_pass_at s t p)
+well_set_at s t p ok l x = record {
   service = ok.service;
-  seated = seat_set s.tables s.passes s.in_use p ok.seated ok.a_table_in_use x;
-  a_table_in_use = omega (arith, ok.a_table_in_use, length-set s.passes s.in_use p);
+  seated = seat_set s.tables s.passes t p ok.seated l x;
+  a_table_in_use = omega (arith, ok.a_table_in_use, length-set s.passes t p);
   a_place_each = ok.a_place_each;
+  clones = ok.clones;
 }
+
+pub well_set : (s : State) (p : Known) → IsWellFormed s → IsSeated (table_at s.tables s.in_use) p → IsWellFormed (with_pass s p)
+well_set s p ok x = well_set_at s s.in_use p ok ok.a_table_in_use x
+
+-- another clone in a slot, or none
+pub well_slot : (s : State) (slot : ℕ) (c : Option (ℕ × Cloned)) → IsWellFormed s → slot < slots → FitsSlot s.tables c → IsWellFormed (with_slot s slot c)
+well_slot s slot c ok l x = record {
+  service = ok.service;
+  seated = ok.seated;
+  a_table_in_use = ok.a_table_in_use;
+  a_place_each = length-set s.clones slot c ∙ ok.a_place_each;
+  clones = λ i. dite (ℕ_discrete i slot)
+      (λ e. subst (FitsSlot s.tables) (sym (ap (λ (n : ℕ). get_or (slice_set s.clones slot c) n None) e ∙ get_or-set_same s.clones slot c None (omega (arith, l, ok.a_place_each)))) x)
+      (λ n. subst (FitsSlot s.tables) (sym (get_or-set_other s.clones slot i c None n)) (ok.clones i));
+}
+
+-- the clone that was cut is one of the table in use
+pub cut_fits : (s : State) (old new : Known) (clone : Cloned) → IsWellFormed s → IsSeated (table_at s.tables s.in_use) old → Cuts old new clone → IsCloneIn s.tables (s.in_use, clone)
+cut_fits s old new clone ok x h = let c = h.cut in record {
+  within = omega (arith, ok.a_table_in_use, ok.seated.a_pass_each);
+  at = (c.table ∙ x.of.0, ap (λ (k : Cloned). k.rows) c.of_pass ∙ ap (λ (k : Known). k.view.rows) c.is ∙ x.of.1);
+  clone = c.tree;
+}
+
+-- the pass stays idle
+pub seat_learnt : (rows : Laid) (old new : Known) (clone : Cloned) → IsSeated rows old → TakesBack old new clone → IsSeated rows new
+seat_learnt rows old new clone x h = let is = h.pass in record {
+  of = (ap (λ (k : Known). k.table) is ∙ x.of.0, ap (λ (k : Known). k.view.rows) is ∙ x.of.1, ap (λ (k : Known). k.view.passes) is ∙ x.of.2);
+  idle = record { idle = ap (λ (k : Known). k.view.stage) is ∙ x.idle.idle; free = ap (λ (k : Known). k.view.holds) is ∙ x.idle.free; whole = ap (λ (k : Known). k.view.doing) is ∙ x.idle.whole };
+  passing = ap (λ (k : Known). k.view.role) is ∙ x.passing;
+}
+
+-- a clone was asked how deep it is, and the view was given back
+pub measured_done : (s s0 : State) → s0 ≡ s → IsWellFormed s0 → (slot : ℕ) (live : ℕ × Cloned) → clone_at s slot ≡ Some live → (p0 p1 : Known) → p0 ≡ get_or s0.passes live.0 p0
+    → (asked : Cloned) (r : Reply) → Measures live.1 asked r → TakesBack p0 p1 asked → Measured (clone_at s slot) s r (with_pass_at s0 live.0 p1)
+measured_done s s0 same ok slot live is p0 p1 read asked r m back =
+    let fits : IsCloneIn s0.tables live = subst (FitsSlot s0.tables) (ap (λ (y : State). clone_at y slot) same ∙ is) (ok.clones slot) in
+    let within : live.0 < length s0.passes = omega (arith, fits.within, ok.seated.a_pass_each) in
+    let here : p0 ≡ pass_at s.passes live.0 = get_or_read s0.passes live.0 p0 within read nobody ∙ ap (λ (y : State). pass_at y.passes live.0) same in
+    subst (λ (c : Option (ℕ × Cloned)). Measured c s r (with_pass_at s0 live.0 p1)) (sym is)
+    (asked, p1, ap (λ (y : State). with_pass_at y live.0 p1) same, m, subst (λ (k : Known). TakesBack k p1 asked) here back)
 
 pub seat_loaded : (rows : Laid) (n : ℕ) (pairs : Pairs) (old : Known) (r : Reply) (new : Known) → IsSeated rows old → Loaded n pairs old r new → IsSeated rows new
 seat_loaded rows n pairs old r new x (inl h) = seat_put rows old pairs new x h.1

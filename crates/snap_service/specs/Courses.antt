@@ -1,5 +1,5 @@
 -- What counts of passes, of a session and of closed tables for the outcome of a run.
-use Rattle.std.specs.Prelude.{◌-◌, ◌==◌, ℕ, List, [], ◌∷◌, Option, Some, None, cond, slice_get, slice_index_or, unwrap_or}
+use Rattle.std.specs.Prelude.{◌-◌, ◌==◌, ℕ, false, List, [], ◌∷◌, Option, Some, None, cond, slice_get, slice_index_or, unwrap_or}
 use Rattle.snap_fits.specs.Fits.{Setting, Front}
 use Rattle.snap_fits.specs.Sessions.{Track, Kept, Course}
 use Rattle.snap_steps.specs.Clones.{Cloned}
@@ -12,16 +12,20 @@ use Rattle.snap_service.specs.States.{State, Tables, place_of}
 
 -- what counts of a pass
 abbrev pub track_of : Known → Track
-track_of p = record { who = p.view.who; seen = p.view.seen; mine = p.view.mine; handed = p.view.handed; epochs = p.view.epochs; cuts = p.view.cuts }
+track_of p = record { who = p.view.who; seen = p.view.seen; mine = p.view.mine; handed = p.view.handed; epochs = p.view.epochs; cuts = p.view.cuts; worn = p.view.worn }
 
 -- where there is no table, nothing was done
 abbrev pub track : ℕ → Option Known → Track
-track w None = record { who = w; seen = []; mine = []; handed = 0; epochs = 0; cuts = [] }
+track w None = record { who = w; seen = []; mine = []; handed = 0; epochs = 0; cuts = []; worn = false }
 track w (Some p) = track_of p
+
+-- what counts of a clone
+abbrev pub kept_of : ℕ × Cloned → Kept
+kept_of live = record { table = live.0; base = live.1.base; next = live.1.next }
 
 abbrev pub kept : Option (ℕ × Cloned) → Option Kept
 kept None = None
-kept (Some live) = Some (record { table = live.0; base = live.1.base })
+kept (Some live) = Some (kept_of live)
 
 -- what counts of the session of worker w
 abbrev pub course : ℕ → State → Course
@@ -50,8 +54,8 @@ cuts_of v i = cond (v.who == i) v.cuts (cuts_among v.admitted i)
 
 -- a closed table, as the outcome tells it
 abbrev pub front_of : Option Ended → Front
-front_of None = record { history = []; drawn = 0; cuts = λ i. [] }
-front_of (Some f) = record { history = f.last.view.seen; drawn = f.drawn; cuts = cuts_of f.last.view }
+front_of None = record { history = []; drawn = 0; cuts = λ i. []; worn = false }
+front_of (Some f) = record { history = f.last.view.seen; drawn = f.drawn; cuts = cuts_of f.last.view; worn = f.last.view.worn }
 
 abbrev pub fronts_of : List Ended → ℕ → Front
 fronts_of fronts t = front_of (slice_get fronts t)

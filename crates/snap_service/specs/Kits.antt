@@ -1,5 +1,5 @@
 -- Kits that end: what the caller's kit knows of those that it admitted, and what the closed tables tell of them.
-use Rattle.std.specs.Prelude.{◌≡◌, ◌<◌, ◌≤◌, ◌+◌, ◌⊎◌, ℕ, List, [], ◌∷◌, Some, length, slice_get, slice_set}
+use Rattle.std.specs.Prelude.{◌≡◌, ◌<◌, ◌≤◌, ◌+◌, ◌⊎◌, ℕ, true, List, [], ◌∷◌, Some, length, slice_get, slice_set}
 use Rattle.snap_fits.specs.Fits.{Front, WorkerFits}
 use Rattle.snap_fits.specs.Sessions.{Covers}
 use Rattle.snap_model.specs.SortedMap.{Pairs}
@@ -36,6 +36,7 @@ pub record SpeaksFor (v w : View) : Type 0 where
   pub seen : Begins w.seen v.seen
   pub handed : w.handed ≤ v.handed
   pub epochs : w.epochs ≤ v.epochs
+  pub worn : w.worn ≡ true → v.worn ≡ true
 
 -- the kit admitted this one
 abbrev pub Admits : List Known → List Known → Type 0

@@ -1,5 +1,5 @@
 -- Which commands a session can run, and what each does and replies, by the promises of the tables' calls.
-use Rattle.std.specs.Prelude.{◌≡◌, ◌<◌, ◌+◌, ◌-◌, ◌^◌, ◌⊎◌, ℕ, List, [], ◌∷◌, Option, Some, None, All, length, min, take, slice_get}
+use Rattle.std.specs.Prelude.{◌≡◌, ◌<◌, ◌+◌, ◌-◌, ◌^◌, ◌*◌, ◌≤◌, ◌⊎◌, ℕ, Bool, true, false, List, [], ◌∷◌, Option, Some, None, All, length, min, take, slice_get}
 use Rattle.snap_fits.specs.Fits.{put_reply, remove_reply, value_reply, pair_reply}
 use Rattle.snap_model.specs.History.{after}
 use Rattle.snap_model.specs.SortedMap.{Pairs, at, first_pair, last_pair, range, count, floor, lower, ceiling, higher}
@@ -10,13 +10,19 @@ use Rattle.snap_model.specs.declared.command.Command.TheVariants as command
 use Rattle.snap_model.specs.declared.command.Reply.{Reply}
 use Rattle.snap_model.specs.declared.command.Reply.TheVariants as reply
 use Rattle.snap_search.specs.Answers.{Reads}
-use Rattle.snap_steps.specs.Clones.{Cloned}
+use Rattle.snap_rule.specs.Settled.{IsSettledTree, least}
+use Rattle.snap_rule.specs.Tree.{depth}
+use Rattle.snap_steps.specs.Clones.{Cloned, image}
+use Rattle.snap_steps.specs.Copies.{TakesBack}
 use Rattle.snap_steps.specs.Seen.{Known}
 use Rattle.snap_table.specs.Calls.{Replies, Refuses}
 use Rattle.snap_table.specs.Clones.{Cuts}
 use Rattle.snap_text.specs.Tables.{table_text}
+use Rattle.snap_view.specs.Balances.{TellsBalance}
+use Rattle.snap_view.specs.declared.balance.Settled.{Settled}
+use Rattle.snap_view.specs.declared.balance.Settled.TheVariants.{Yes}
 use Rattle.snap_text.specs.LoadFiles.{Loads, HasFile, pairs_of}
-use Rattle.snap_service.specs.States.{State, HasTable, IsFree, IsTaken, clone_at, pass_in_use, with_pass, with_slot, with_use}
+use Rattle.snap_service.specs.States.{State, HasTable, IsFree, IsTaken, clone_at, pass_at, pass_in_use, with_pass, with_pass_at, with_slot, with_use}
 
 -- one more than a value is a word
 abbrev pub FitsValue : ℕ → Type 0
@@ -38,7 +44,7 @@ CanRun s loads (command.Lower slot key) = IsTaken s slot
 CanRun s loads (command.Ceiling slot key) = IsTaken s slot
 CanRun s loads (command.Higher slot key) = IsTaken s slot
 CanRun s loads (command.Count slot lo hi) = IsTaken s slot
-CanRun s loads (command.Depth slot) = ⊥
+CanRun s loads (command.Depth slot) = IsTaken s slot
 CanRun s loads (command.Export slot lo hi file) = IsTaken s slot
 CanRun s loads (command.Load file) = HasFile loads file × All (λ (pair : ℕ × ℕ). FitsValue pair.1) (pairs_of loads file)
 
@@ -64,6 +70,27 @@ map_in (Some live) = after live.1.base
 abbrev pub clone_map : State → ℕ → Pairs
 clone_map s slot = map_in (clone_at s slot)
 
+-- whether the tree of a clone is settled
+abbrev pub is_yes : Settled → Bool
+is_yes Yes = true
+is_yes _ = false
+
+-- the reply tells how deep a clone's tree is, how many pairs it has and whether it is settled; a view that answers so has then noted a stamp at its greatest count, where that is why it is not
+pub record Measures (old new : Cloned) (r : Reply) : Type 0 where
+  pub deep : ℕ
+  pub balance : Settled
+  pub reply : r ≡ reply.Depth deep (length (after old.base)) (is_yes balance)
+  pub deep_is : deep ≡ depth (image old)
+  pub low : deep ≤ old.next
+  pub many : length (after old.base) < 2 ^ deep
+  pub shallow : IsSettledTree (image old) → least deep ≤ 2 * length (after old.base)
+  pub tells : TellsBalance old new balance
+
+-- the depth of a clone, and the pass of its table to which the view was given back that answered
+abbrev pub Measured : Option (ℕ × Cloned) → State → Reply → State → Type 0
+Measured None a r b = ⊥
+Measured (Some live) a r b = (asked : Cloned) × (pass : Known) × (b ≡ with_pass_at a live.0 pass) × Measures live.1 asked r × TakesBack (pass_at a.passes live.0) pass asked
+
 -- what a command replies, and the session after it
 abbrev pub Serves : Loads → State → Command → Reply → State → Type 0
 Serves loads a (command.Table name) r b = (r ≡ reply.Using) × (b ≡ with_use a name)
@@ -82,7 +109,7 @@ Serves loads a (command.Ceiling slot key) r b = (b ≡ a) × (r ≡ pair_reply (
 Serves loads a (command.Higher slot key) r b = (b ≡ a) × (r ≡ pair_reply (higher (clone_map a slot) key))
 Serves loads a (command.Count slot lo hi) r b = (b ≡ a) × (r ≡ reply.Count (min (count (clone_map a slot) lo hi) (2 ^ 64 - 1)))
 Serves loads a (command.Export slot lo hi file) r b = (b ≡ a) × (r ≡ reply.Exported (count (clone_map a slot) lo hi))
-Serves loads a (command.Depth slot) r b = ⊥
+Serves loads a (command.Depth slot) r b = Measured (clone_at a slot) a r b
 
 -- the text that a command exports
 abbrev pub text_of : State → Command → List ℕ

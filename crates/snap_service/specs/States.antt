@@ -1,7 +1,8 @@
 -- What contracts see of the tables of a service, of a kit and of a session.
-use Rattle.std.specs.Prelude.{◌++◌, ◌≡◌, ◌<◌, ℕ, List, [], ◌∷◌, length, max, Option, None, position, bytes_eq, map, replicate, slice_index_or, slice_set, unwrap_or, IsSome, IsNone}
+use Rattle.std.specs.Prelude.{◌++◌, ◌≡◌, ◌<◌, ℕ, List, [], ◌∷◌, length, max, Option, None, Some, position, bytes_eq, map, replicate, slice_index_or, slice_set, unwrap_or, IsSome, IsNone}
 use Rattle.atomic_table.specs.Seated.{TableId}
-use Rattle.snap_steps.specs.Clones.{Cloned}
+use Rattle.snap_steps.specs.Clones.{Cloned, IsCloneOf, image}
+use Rattle.snap_steps.specs.Copies.{IsCloneAt}
 use Rattle.snap_steps.specs.Roles.{gone, newcomer}
 use Rattle.snap_steps.specs.Seen.{Known, Laid, IsOf}
 use Rattle.snap_steps.specs.declared.view.Role.TheVariants.{Passing}
@@ -65,11 +66,23 @@ pub record State : Type 0 where
   pub in_use : ℕ
   pub clones : List (Option (ℕ × Cloned))
 
+-- a clone of one of the tables, with its place, tells the map after a legal history
+pub record IsCloneIn (s : Tables) (live : ℕ × Cloned) : Type 0 where
+  pub within : live.0 < length s.laid
+  pub at : IsCloneAt live.1 (table_at s live.0)
+  pub clone : IsCloneOf live.1.base (image live.1)
+
+-- the same of a slot that is taken
+abbrev pub FitsSlot : Tables → Option (ℕ × Cloned) → Type 0
+FitsSlot s None = Unit {0}
+FitsSlot s (Some live) = IsCloneIn s live
+
 pub record IsWellFormed (s : State) : Type 0 where
   pub service : AreTables s.tables
   pub seated : AreSeated s.tables s.passes
   pub a_table_in_use : s.in_use < length s.passes
   pub a_place_each : length s.clones ≡ slots
+  pub clones : (slot : ℕ) → FitsSlot s.tables (slice_index_or s.clones slot None)
 
 abbrev pub free_slots : List (Option (ℕ × Cloned))
 free_slots = replicate slots None
@@ -98,9 +111,12 @@ IsTaken s slot = IsSome (clone_at s slot)
 abbrev pub IsFree : State → ℕ → Type 0
 IsFree s slot = (slot < slots) × IsNone (clone_at s slot)
 
--- the session with another pass on the table in use, another table in use, or another clone in a slot
+-- the session with another pass on a table, or on the one in use, another table in use, or another clone in a slot
+abbrev pub with_pass_at : State → ℕ → Known → State
+with_pass_at s t p = record s { passes = slice_set s.passes t p }
+
 abbrev pub with_pass : State → Known → State
-with_pass s p = record s { passes = slice_set s.passes s.in_use p }
+with_pass s p = with_pass_at s s.in_use p
 
 abbrev pub with_use : State → List ℕ → State
 with_use s name = record s { in_use = unwrap_or (place_of s.tables.names name) s.in_use }

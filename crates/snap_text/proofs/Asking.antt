@@ -36,5 +36,6 @@ refused verb.Drop asks words slots kind is = absurd asks
 refused verb.First asks words slots kind is = absurd asks
 refused verb.Last asks words slots kind is = absurd asks
 refused verb.Count asks words slots kind is = absurd asks
+refused verb.Depth asks words slots kind is = absurd asks
 refused verb.Export asks words slots kind is = absurd asks
 refused verb.Load asks words slots kind is = absurd asks

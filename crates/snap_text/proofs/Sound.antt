@@ -121,6 +121,7 @@ forms_sound verb.Lower = λ name _ key _. on_clone_sound name (λ slot. command.
 forms_sound verb.Ceiling = λ name _ key _. on_clone_sound name (λ slot. command.Ceiling slot key) (λ _. tt) (λ _ _ taken. taken) (λ _ _. refl)
 forms_sound verb.Higher = λ name _ key _. on_clone_sound name (λ slot. command.Higher slot key) (λ _. tt) (λ _ _ taken. taken) (λ _ _. refl)
 forms_sound verb.Count = λ name _ lo _ hi _. on_clone_sound name (λ slot. command.Count slot lo hi) (λ _. tt) (λ _ _ taken. taken) (λ _ _. refl)
+forms_sound verb.Depth = λ name _. on_clone_sound name (λ slot. command.Depth slot) (λ _. tt) (λ _ _ taken. taken) (λ _ _. refl)
 forms_sound verb.Export = λ name _ lo _ hi _ file _. on_clone_sound name (λ slot. command.Export slot lo hi file) (λ _. tt) (λ _ _ taken. taken) (λ _ _. refl)
 forms_sound verb.Load = λ file _. plain_sound (command.Load file) tt (λ _. tt) (λ _. refl)
 

@@ -1,7 +1,7 @@
 -- Scripts that are accepted, and scripts that are refused.
 use Rattle.std.specs.Prelude.{◌≡◌, ℕ, [], ◌∷◌, Ok, Err, codes, refl}
 use Rattle.snap_model.specs.declared.command.Command.{Command}
-use Rattle.snap_model.specs.declared.command.Command.TheVariants.{Table, Put, Remove, Get, Snap, Forget, See, Load}
+use Rattle.snap_model.specs.declared.command.Command.TheVariants.{Table, Put, Remove, Get, Snap, Forget, See, Depth, Load}
 use Rattle.snap_text.specs.declared.fault.LineKind.TheVariants.{UnknownWord, WordCount, BadNumber, BadName, NoSuchClone, CloneTaken}
 use Rattle.snap_text.specs.declared.fault.ScriptFault.TheVariants as fault
 use Rattle.snap_text.specs.declared.script.Line.{Line}
@@ -78,6 +78,10 @@ slots_are_used_again = refl
 a_live_name : script_of (codes "clone a\nclone a\n") ≡ Err (fault.Line 2 CloneTaken)
 unfolding script_of all_free verb_of
 a_live_name = refl
+
+the_depth_of_a_clone : script_of (codes "clone a\nclone b\ndepth b\n") ≡ Ok (at_line 1 (Snap 0 (codes "a")) ∷ at_line 2 (Snap 1 (codes "b")) ∷ at_line 3 (Depth 1) ∷ [])
+unfolding script_of all_free verb_of
+the_depth_of_a_clone = refl
 
 no_live_clone : script_of (codes "see a 1\n") ≡ Err (fault.Line 1 NoSuchClone)
 unfolding script_of all_free verb_of

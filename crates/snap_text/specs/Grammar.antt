@@ -98,6 +98,7 @@ form_of verb.Lower = of_clone_and_key (λ slot key. command.Lower slot key)
 form_of verb.Ceiling = of_clone_and_key (λ slot key. command.Ceiling slot key)
 form_of verb.Higher = of_clone_and_key (λ slot key. command.Higher slot key)
 form_of verb.Count = record { kinds = Name ∷ Key ∷ Key ∷ []; make = λ name lo hi. on_clone name (λ slot. command.Count slot lo hi) }
+form_of verb.Depth = of_clone (λ slot. command.Depth slot)
 form_of verb.Export = record {
   kinds = Name ∷ Key ∷ Key ∷ File ∷ [];
   make = λ name lo hi file. on_clone name (λ slot. command.Export slot lo hi file);

@@ -18,13 +18,14 @@ word_of verb.Lower = codes "lower"
 word_of verb.Ceiling = codes "ceiling"
 word_of verb.Higher = codes "higher"
 word_of verb.Count = codes "count"
+word_of verb.Depth = codes "depth"
 word_of verb.Export = codes "export"
 word_of verb.Load = codes "load"
 
 abbrev pub verbs : List Verb
 verbs =
     verb.Use ∷ verb.Put ∷ verb.Remove ∷ verb.Get ∷ verb.Clone ∷ verb.Drop ∷ verb.See ∷ verb.First ∷ verb.Last ∷ verb.Floor
-    ∷ verb.Lower ∷ verb.Ceiling ∷ verb.Higher ∷ verb.Count ∷ verb.Export ∷ verb.Load ∷ []
+    ∷ verb.Lower ∷ verb.Ceiling ∷ verb.Higher ∷ verb.Count ∷ verb.Depth ∷ verb.Export ∷ verb.Load ∷ []
 
 -- the verb that a word writes
 unfoldable pub verb_of : List ℕ → Option Verb

@@ -9,7 +9,7 @@ use snap_model::{Command, Key};
 
 impl<'t> Session<'t> {
     /// Whether a command can be run now: a clone needs a free slot, whatever asks a clone needs a taken one, a named
-    /// table or load file has to be there, and no value may be the greatest word. `Depth` can't be run.
+    /// table or load file has to be there, and no value may be the greatest word.
     pub fn can_run(&self, command: &Command, loads: &Loads) -> bool
         ensures { IsTrue result ↔ CanRun self.now loads.now command.now }
     {
@@ -19,7 +19,6 @@ impl<'t> Session<'t> {
             Command::Table { name } => self.service.place_of(name).is_some(),
             Command::Load { file } => loads.has(file) && have_room(loads.pairs_of(file)),
             Command::Snap { slot, .. } => self.is_free(*slot),
-            Command::Depth { .. } => false,
             Command::Forget { slot, .. }
             | Command::See { slot, .. }
             | Command::First { slot }
@@ -29,6 +28,7 @@ impl<'t> Session<'t> {
             | Command::Ceiling { slot, .. }
             | Command::Higher { slot, .. }
             | Command::Count { slot, .. }
+            | Command::Depth { slot }
             | Command::Export { slot, .. } => self.is_taken(*slot),
         }
     }

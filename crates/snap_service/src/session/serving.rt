@@ -1,5 +1,5 @@
 //! The commands of a session, one function each: what it asks of the tables and of the session's clones.
-ghost use Rattle.std.specs.Prelude.{◌≡◌, ◌<◌, ◌≤◌, ◌+◌, ◌^◌, ◌++◌, Option, ℕ, All, IfOk, OnOk, OnErr, IsSome, None, Some, length};
+ghost use Rattle.std.specs.Prelude.{◌≡◌, ◌<◌, ◌≤◌, ◌+◌, ◌^◌, ◌++◌, Option, ℕ, All, IfOk, OnOk, OnErr, IsSome, None, Some, [], length};
 ghost use Rattle.snap_fits.specs.Fits.{put_reply, remove_reply, value_reply};
 ghost use Rattle.snap_model.specs.History.{after};
 ghost use Rattle.snap_model.specs.SortedMap.{count, range};
@@ -11,19 +11,18 @@ ghost use Rattle.snap_table.specs.Calls.{IsIdle};
 ghost use Rattle.snap_table.specs.Clones.{Cuts};
 ghost use Rattle.snap_text.specs.LoadFiles.{HasFile, pairs_of};
 ghost use Rattle.snap_text.specs.Tables.{table_text};
-ghost use Rattle.snap_service.specs.Serving.{CanRun, FitsValue, Loaded, MayWantMemory, Serves, Wrote, clone_map, map_in, text_of};
-ghost use Rattle.snap_service.specs.States.{HasTable, IsFree, IsTaken, most_uses, pass_in_use, with_pass, with_slot, with_use};
+ghost use Rattle.snap_service.specs.Kinds.{Asks, IsOnSlot, IsOnTable};
+ghost use Rattle.snap_service.specs.Serving.{CanRun, FitsValue, Loaded, Measured, MayWantMemory, Serves, Wrote, clone_map, text_of};
+ghost use Rattle.snap_service.specs.States.{HasTable, IsFree, IsTaken, clone_at, most_uses, pass_in_use, with_pass, with_slot, with_use};
 
 use super::Session;
-use crate::asking::{ceiling, count, first, floor, higher, last, lower, see};
+use crate::asking::{ceiling, count, first, floor, higher, last, lower, measure, see};
 use crate::replies::{put_reply, remove_reply, value_reply};
 use snap_model::{Command, Key, Name, OutOfMemory, Reply};
 use snap_table::{Pass, SnapTable, TableView};
 use snap_text::{Loads, export_text};
 use std::alloc::Global;
-use std::marker::Brand;
 use std::sync::Wait;
-use std::sync::ledger::Blank;
 
 impl<'t> Session<'t> {
     // Runs a command: an export alone can want memory.
@@ -44,47 +43,75 @@ impl<'t> Session<'t> {
         ensures out_stays { OnErr result (out.new.items ≡ out.old.items) }
     {
         match command {
-            Command::Table { name } => Ok(self.go_on_with(name)),
-            Command::Put { key, value } => Ok(self.put(rt, *key, *value)),
-            Command::Remove { key } => Ok(self.remove(rt, *key)),
-            Command::Get { key } => Ok(self.get(rt, *key)),
-            Command::Snap { slot, .. } => Ok(self.snap(rt, *slot)),
-            Command::Forget { slot, .. } => Ok(self.forget(*slot)),
-            Command::See { slot, key } => {
-                let view = self.clone_in(*slot);
-                Ok(see::<Brand>(view, *key, Blank::new(1)))
+            Command::Table { .. }
+            | Command::Put { .. }
+            | Command::Remove { .. }
+            | Command::Get { .. }
+            | Command::Load { .. } => Ok(self.on_table(rt, command, loads)),
+            Command::Snap { .. } | Command::Forget { .. } | Command::Depth { .. } => {
+                Ok(self.on_slot(rt, command))
             }
-            Command::First { slot } => {
-                let view = self.clone_in(*slot);
-                Ok(first::<Brand>(view, Blank::new(1)))
-            }
-            Command::Last { slot } => {
-                let view = self.clone_in(*slot);
-                Ok(last::<Brand>(view, Blank::new(1)))
-            }
-            Command::Floor { slot, key } => {
-                let view = self.clone_in(*slot);
-                Ok(floor::<Brand>(view, *key, Blank::new(1)))
-            }
-            Command::Lower { slot, key } => {
-                let view = self.clone_in(*slot);
-                Ok(lower::<Brand>(view, *key, Blank::new(1)))
-            }
-            Command::Ceiling { slot, key } => {
-                let view = self.clone_in(*slot);
-                Ok(ceiling::<Brand>(view, *key, Blank::new(1)))
-            }
-            Command::Higher { slot, key } => {
-                let view = self.clone_in(*slot);
-                Ok(higher::<Brand>(view, *key, Blank::new(1)))
-            }
-            Command::Count { slot, lo, hi } => {
-                let view = self.clone_in(*slot);
-                Ok(count(view, *lo, *hi))
-            }
+            Command::See { slot, .. }
+            | Command::First { slot }
+            | Command::Last { slot }
+            | Command::Floor { slot, .. }
+            | Command::Lower { slot, .. }
+            | Command::Ceiling { slot, .. }
+            | Command::Higher { slot, .. }
+            | Command::Count { slot, .. } => Ok(self.ask(*slot, command)),
             Command::Export { slot, lo, hi, .. } => self.export(alloc, *slot, *lo, *hi, out),
-            Command::Load { file } => Ok(self.load(rt, loads, file)),
-            Command::Depth { .. } => unreachable!(),
+        }
+    }
+
+    // The commands that go to a table: another one, or that in use.
+    fn on_table<R: Wait>(&mut self, rt: &R, command: &Command, loads: &Loads) -> Reply
+        requires kind { IsOnTable command.now }
+        requires can { CanRun self.old loads.now command.now }
+        requires uses { most_uses self.old.passes < 2 ^ 47 }
+        ensures { Serves loads.now self.old command.now result self.new }
+    {
+        match command {
+            Command::Table { name } => self.go_on_with(name),
+            Command::Put { key, value } => self.put(rt, *key, *value),
+            Command::Remove { key } => self.remove(rt, *key),
+            Command::Get { key } => self.get(rt, *key),
+            Command::Load { file } => self.load(rt, loads, file),
+            _ => unreachable!(),
+        }
+    }
+
+    // The commands that fill a slot, empty it or measure the clone there. No load file plays a part in them.
+    fn on_slot<R: Wait>(&mut self, rt: &R, command: &Command) -> Reply
+        requires kind { IsOnSlot command.now }
+        requires can { CanRun self.old [] command.now }
+        requires uses { most_uses self.old.passes < 2 ^ 47 }
+        ensures { Serves [] self.old command.now result self.new }
+    {
+        match command {
+            Command::Snap { slot, .. } => self.snap(rt, *slot),
+            Command::Forget { slot, .. } => self.forget(*slot),
+            Command::Depth { slot } => self.depth(*slot),
+            _ => unreachable!(),
+        }
+    }
+
+    // A question to the clone in a slot. No load file plays a part in it.
+    fn ask(&mut self, slot: u8, question: &Command) -> Reply
+        requires asks { Asks slot question.now }
+        requires taken { IsTaken self.old slot }
+        ensures { Serves [] self.old question.now result self.new }
+    {
+        let view = self.clone_in(slot);
+        match question {
+            Command::See { key, .. } => see(view, *key),
+            Command::First { .. } => first(view),
+            Command::Last { .. } => last(view),
+            Command::Floor { key, .. } => floor(view, *key),
+            Command::Lower { key, .. } => lower(view, *key),
+            Command::Ceiling { key, .. } => ceiling(view, *key),
+            Command::Higher { key, .. } => higher(view, *key),
+            Command::Count { lo, hi, .. } => count(view, *lo, *hi),
+            _ => unreachable!(),
         }
     }
 
@@ -186,13 +213,26 @@ impl<'t> Session<'t> {
         ensures state { self.new ≡ self.old }
         ensures refused { OnErr result (out.new.items ≡ out.old.items) }
     {
-        let mut view = self.clone_in(slot);
-        let pairs = pairs_from(alloc, &mut view, lo, hi)?;
-        let text = export_text(alloc, &pairs)?;
-        out.extend_from_slice(&text)?;
+        let view = self.clone_in(slot);
+        let pairs = pairs_from(alloc, view, lo, hi)?;
+        add_text(alloc, &pairs, out)?;
         Ok(Reply::Exported {
             n: pairs.len() as u64,
         })
+    }
+
+    // Asks one view more of the clone, and gives it back to the pass of the clone's table.
+    fn depth(&mut self, slot: u8) -> Reply
+        requires { IsTaken self.old slot }
+        ensures { Measured (clone_at self.old slot) self.old result self.new }
+    {
+        let (place, mut view) = self.live_in(slot);
+        let reply = measure(&mut view);
+        let service = self.service;
+        let table = &service.tables[place];
+        let pass = &mut self.passes[place];
+        table.take_back(pass, view);
+        reply
     }
 
     // One view more of the clone in a slot that is taken.
@@ -201,18 +241,27 @@ impl<'t> Session<'t> {
         ensures map { after result.base ≡ clone_map self.old slot }
         ensures state { self.new ≡ self.old }
     {
+        self.live_in(slot).1
+    }
+
+    // The same, behind the place of the clone's table.
+    fn live_in(&mut self, slot: u8) -> (usize, TableView<'t>)
+        requires { IsTaken self.old slot }
+        ensures live { clone_at self.old slot ≡ Some (result.0, result.1) }
+        ensures state { self.new ≡ self.old }
+    {
         twin_of(&mut self.clones[slot as usize])
     }
 }
 
 // One view more of a clone that is there.
-fn twin_of<'t>(live: &mut Option<(usize, TableView<'t>)>) -> TableView<'t>
+fn twin_of<'t>(live: &mut Option<(usize, TableView<'t>)>) -> (usize, TableView<'t>)
     requires { IsSome live.old }
-    ensures map { after result.base ≡ map_in live.old }
+    ensures twin { live.old ≡ Some (result.0, result.1) }
     ensures live { live.new ≡ live.old }
 {
     match live {
-        Some(clone) => clone.1.twin(),
+        Some(clone) => (clone.0, clone.1.twin()),
         None => unreachable!(),
     }
 }
@@ -238,15 +287,25 @@ fn put_all<R: Wait>(table: &SnapTable, rt: &R, pass: &mut Pass, pairs: &[(Key, u
 // The pairs of a clone in a range.
 fn pairs_from(
     alloc: Global,
-    view: &mut TableView<'_>,
+    mut view: TableView<'_>,
     lo: Key,
     hi: Key,
 ) -> Result<Vec<(Key, u64)>, OutOfMemory>
-    ensures pairs { IfOk result (λ pairs. pairs.items ≡ range (after view.old.base) lo hi) }
+    ensures pairs { IfOk result (λ pairs. pairs.items ≡ range (after view.entry.base) lo hi) }
 {
     let mut pairs = Vec::new(alloc);
     for pair in view.range(lo, hi) {
         pairs.push(pair)?;
     }
     Ok(pairs)
+}
+
+// Adds the text of an export.
+fn add_text(alloc: Global, pairs: &[(Key, u64)], out: &mut Vec<u8>) -> Result<(), OutOfMemory>
+    ensures added { OnOk result (out.new.items ≡ out.old.items ++ table_text pairs.now) }
+    ensures refused { OnErr result (out.new.items ≡ out.old.items) }
+{
+    let text = export_text(alloc, pairs)?;
+    out.extend_from_slice(&text)?;
+    Ok(())
 }

@@ -1,4 +1,4 @@
-use Rattle.snap_plan.proofs.Known.{text_fits}
+use Rattle.snap_plan.proofs.Few.{text_fits}
 use Rattle.snap_plan.proofs.parsing.parse_script.Goals as goal
 
 pub returns-in-Ok-clause-fits : goal.returns-in-Ok-clause-fits

@@ -56,6 +56,15 @@ returns-in_err-slot-in-Last c =
     let p = err_from_is_err_and c.from_residual-in_err-slot-in-Last.result c.from_residual-in_err-slot-in-Last.ensures.1 in
     rw (p.1, p.2, c.in-Last.is) (c.in_err-slot-in-Last.ensures (λ slot. command.Last slot))
 
+pub returns-in_ok-slot-in-Depth : goal.returns-in_ok-slot-in-Depth
+returns-in_ok-slot-in-Depth c =
+    rw c.in-Depth.is (c.in_ok-slot-in-Depth.ensures (λ slot. command.Depth slot))
+
+pub returns-in_err-slot-in-Depth : goal.returns-in_err-slot-in-Depth
+returns-in_err-slot-in-Depth c =
+    let p = err_from_is_err_and c.from_residual-in_err-slot-in-Depth.result c.from_residual-in_err-slot-in-Depth.ensures.1 in
+    rw (p.1, p.2, c.in-Depth.is) (c.in_err-slot-in-Depth.ensures (λ slot. command.Depth slot))
+
 pub returns-in_ok-read_count-in-Count : goal.returns-in_ok-read_count-in-Count
 returns-in_ok-read_count-in-Count c =
     rw c.in-Count.is c.in_ok-read_count-in-Count.ensures
