@@ -5,11 +5,11 @@ use Rattle.std.proofs.lemmas.Option.{slice_get-get_or}
 use Rattle.snap_fits.specs.Fits.{Front, Setting}
 use Rattle.snap_model.specs.History.{IsLegal, after}
 use Rattle.snap_model.specs.declared.command.Command.{Command}
-use Rattle.snap_steps.specs.Ending.{Ended}
+use Rattle.snap_steps.specs.Ending.{Ended, IsLastState}
 use Rattle.snap_steps.specs.Seen.{Known}
 use Rattle.snap_service.specs.Courses.{fronts_of, setting}
 use Rattle.snap_text.specs.LoadFiles.{Loads}
-use Rattle.snap_service.specs.States.{AreSeated, AreTables, Tables}
+use Rattle.snap_service.specs.States.{AreSeated, AreTables, State, Tables, new_kit, opened}
 use Rattle.snap_crew.specs.Endings.{AreEnded, IsTrue, setting_of}
 use Rattle.snap_crew.specs.Jobs.{IsHanded, IsJob}
 use Rattle.snap_crew.specs.Works.{CanWork, HasFit, HasWorked, commands_of}
@@ -17,22 +17,26 @@ use Rattle.snap_crew.specs.declared.answers.Answers.{Answers}
 use Rattle.snap_crew.specs.declared.crew.Done.{Done}
 use Rattle.snap_crew.specs.declared.crew.Job.{Job}
 
+-- the session of worker i as it begins
+abbrev begin : Tables → ℕ → State
+begin tables i = opened tables (new_kit tables.laid i)
+
 -- a job is by its own fields what it is by its number and script
 module _ (loads : Loads) (tables : Tables) (commands : List Command) (i : ℕ) (job : Job) (is : IsJob loads tables commands i job) where
   pub job_can : CanWork loads job.who job.session (commands_of job.script.now)
   job_can = subst (λ (cs : List Command). CanWork loads job.who job.session cs) (sym is.commands_are) (subst (λ (w : ℕ). CanWork loads w job.session commands) (sym is.who_is) is.can)
 
-  pub job_worked : (receipt : List Known) (answers : Answers) → HasWorked loads job.who (commands_of job.script.now) job.session.tables receipt answers → HasWorked loads i commands tables receipt answers
+  pub job_worked : (receipt : List Known) (answers : Answers) → HasWorked loads job.who (commands_of job.script.now) job.session receipt answers → HasWorked loads i commands (begin tables i) receipt answers
   job_worked receipt answers h =
-      subst (λ (w : ℕ). HasWorked loads w commands tables receipt answers) is.who_is
-      (subst (λ (cs : List Command). HasWorked loads job.who cs tables receipt answers) is.commands_are
-      (subst (λ (t : Tables). HasWorked loads job.who (commands_of job.script.now) t receipt answers) is.on h))
+      subst (λ (w : ℕ). HasWorked loads w commands (begin tables i) receipt answers) is.who_is
+      (subst (λ (cs : List Command). HasWorked loads job.who cs (begin tables i) receipt answers) is.commands_are
+      (subst (λ (s : State). HasWorked loads job.who (commands_of job.script.now) s receipt answers) is.on h))
 
 -- what a worker that had memory handed over
 pub handed : {E : Type 0} (loads : Loads) (tables : Tables) (commands : List Command) (i : ℕ) (job : Job) (is : IsJob loads tables commands i job) (r : Result Done E) (receipt : List Known) (answers : Answers)
-    → IfOk r (λ (d : Done). HasWorked loads job.who (commands_of job.script.now) job.session.tables d.receipt d.answers) → IsHanded r (λ d. receipt ≡ d.receipt) → IsHanded r (λ d. answers ≡ d.answers) → HasWorked loads i commands tables receipt answers
+    → IfOk r (λ (d : Done). HasWorked loads job.who (commands_of job.script.now) job.session d.receipt d.answers) → IsHanded r (λ d. receipt ≡ d.receipt) → IsHanded r (λ d. answers ≡ d.answers) → HasWorked loads i commands (begin tables i) receipt answers
 handed loads tables commands i job is (Ok d) receipt answers h e f =
-    subst (λ (a : Answers). HasWorked loads i commands tables receipt a) (sym f) (subst (λ (k : List Known). HasWorked loads i commands tables k d.answers) (sym e) (job_worked loads tables commands i job is d.receipt d.answers h))
+    subst (λ (a : Answers). HasWorked loads i commands (begin tables i) receipt a) (sym f) (subst (λ (k : List Known). HasWorked loads i commands (begin tables i) k d.answers) (sym e) (job_worked loads tables commands i job is d.receipt d.answers h))
 handed loads tables commands i job is (Err x) receipt answers h e f = absurd e
 
 -- an outcome speaks of names, rows and workers alone
@@ -54,4 +58,5 @@ true_front tables fronts ok ended t d l =
       writes = c.writes ∙ ap (λ (k : Known). length k.view.seen) (sym c.last);
       pairs = c.pairs ∙ ap (λ (k : Known). length (after k.view.seen)) (sym c.last);
       drawn = omega (arith, c.drawn, sit.of.1 ∙ ok.rows_are t lt);
+      state = (let front = slice_index_or fronts t d in subst (λ (k : Known). IsLastState k.view front.drawn) (sym c.last) c.state);
     }

@@ -13,7 +13,7 @@ use Rattle.snap_text.specs.Replies.{IsReplyOf, reply_text}
 use Rattle.snap_text.specs.Tables.{table_text}
 use Rattle.snap_service.specs.Courses.{course, kept}
 use Rattle.snap_text.specs.LoadFiles.{Loads}
-use Rattle.snap_service.specs.Serving.{CanRun, Serves, map_in, text_of}
+use Rattle.snap_service.specs.Serving.{CanRun, Measured, Serves, map_in, text_of}
 use Rattle.snap_service.specs.States.{State, clone_at}
 use Rattle.snap_crew.specs.Answers.{exported_file, full_of, fulls_of, fulls_with, lines_of, lines_with, table_files}
 
@@ -32,6 +32,10 @@ of_value c r (Some v) absent some e = subst (IsReplyOf c) (sym e) (some v)
 of_pair : (c : Command) (r : Reply) (x : Option (ℕ × ℕ)) → IsReplyOf c reply.Absent → ((k v : ℕ) → IsReplyOf c (reply.Pair k v)) → r ≡ pair_reply x → IsReplyOf c r
 of_pair c r None absent some e = subst (IsReplyOf c) (sym e) absent
 of_pair c r (Some p) absent some e = subst (IsReplyOf c) (sym e) (some p.0 p.1)
+
+measured_reply : (a b : State) (n : ℕ) (c : Option (ℕ × Cloned)) (r : Reply) → Measured c a r b → IsReplyOf (command.Depth n) r
+measured_reply a b n None r h = absurd h
+measured_reply a b n (Some live) r h = subst (IsReplyOf (command.Depth n)) (sym h.3.reply) tt
 
 -- each command is served with one of its replies
 pub serves_reply : (loads : Loads) (a b : State) (c : Command) (r : Reply) → Serves loads a c r b → IsReplyOf c r
@@ -60,7 +64,7 @@ serves_reply loads a b (command.Ceiling n k) r h = of_pair (command.Ceiling n k)
 serves_reply loads a b (command.Higher n k) r h = of_pair (command.Higher n k) r _ tt (λ k v. tt) h.1
 serves_reply loads a b (command.Count n lo hi) r h = subst (IsReplyOf (command.Count n lo hi)) (sym h.1) tt
 serves_reply loads a b (command.Export n lo hi file) r h = subst (IsReplyOf (command.Export n lo hi file)) (sym h.1) tt
-serves_reply loads a b (command.Depth n) r h = absurd h
+serves_reply loads a b (command.Depth n) r h = measured_reply a b n (clone_at a n) r h
 
 of_slot : (o : Option (ℕ × Cloned)) (lo hi : ℕ) (file : List ℕ) → IsSome o → (file, table_text (range (map_in o) lo hi)) ∷ [] ≡ table_files (exported_from (kept o) lo hi file)
 of_slot None lo hi file some = absurd cc

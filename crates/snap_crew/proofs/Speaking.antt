@@ -57,8 +57,8 @@ fit_told s fronts w cs rs es answers fit a = let trace = fit.trace in record {
 }
 
 pub fits_if : (tables : Tables) (own : List Known) (fronts : List Ended) (w : ℕ) (passes : List Known) → FitsAll tables own fronts → AreSeated tables passes → Admits own passes → FitsIf tables w passes fronts
-fits_if tables own fronts w passes all seated admits loads cs answers h =
+fits_if tables own fronts w passes all seated admits loads cs first answers same h =
     let r = h.ran in
     fit_told (setting tables loads) (fronts_of fronts) w cs r.replies r.exports answers
-    (all loads w h.state cs r.replies r.exports h.on (subst (AreSeated tables) h.left seated) r.served (subst (λ (ps : List Known). Admits own ps) h.left admits))
+    (all loads w h.state cs r.replies r.exports (h.on ∙ same) (subst (AreSeated tables) h.left seated) r.served (subst (λ (ps : List Known). Admits own ps) h.left admits))
     r.answered

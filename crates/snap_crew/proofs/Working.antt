@@ -14,17 +14,25 @@ use Rattle.snap_service.specs.Courses.{course}
 use Rattle.snap_text.specs.LoadFiles.{Loads}
 use Rattle.snap_service.specs.Runs.{CanRunAll, HasServed, ServesOn}
 use Rattle.snap_service.specs.Serving.{CanRun, Serves, text_of}
-use Rattle.snap_service.specs.States.{AreSeated, State, Tables, most_uses}
+use Rattle.snap_service.specs.States.{State, most_uses}
 use Rattle.snap_service.proofs.Admitting.{number_is}
 use Rattle.snap_crew.specs.Answers.{AreOf, exported_file, full_of, fulls_with, lines_with, table_files}
-use Rattle.snap_crew.specs.Works.{CanWork, HasRun, HasWorked, IsNumbered, commands_of}
+use Rattle.snap_crew.specs.Works.{CanWork, HasRun, HasWorked, IsNumbered, ServesAll, commands_of}
 use Rattle.snap_crew.specs.declared.answers.Answers.{Answers}
 use Rattle.snap_crew.proofs.Replying.{few_fulls, file_exported, fulls_more, lines_more}
+
+-- one more was run behind those that were
+serves_on : (loads : Loads) (cs : List Command) (rs : List Reply) (a b next : State) (c : Command) (r : Reply) → ServesAll loads a cs rs b → Serves loads b c r next → ServesAll loads a (cs ++ c ∷ []) (rs ++ r ∷ []) next
+serves_on loads [] [] a b next c r same serves = (next, subst (λ (s : State). Serves loads s c r next) same serves, refl)
+serves_on loads [] (y ∷ rs) a b next c r h serves = absurd h
+serves_on loads (x ∷ cs) [] a b next c r h serves = absurd h
+serves_on loads (x ∷ cs) (y ∷ rs) a b next c r h serves = (h.0, h.1, serves_on loads cs rs h.0 b next c r h.2 serves)
 
 -- the commands so far were run, and the others can be
 pub record IsAt (loads : Loads) (w : ℕ) (commands : List Command) (i : ℕ) (answers : Answers) (first now : State) : Type 0 where
   pub replies : List Reply
   pub exports : List (List ℕ × Pairs)
+  pub steps : ServesAll loads first (take i commands) replies now
   pub served : HasServed loads w (take i commands) replies exports now
   pub can : CanRunAll now loads (drop i commands)
   pub few : most_uses now.passes ≤ most_uses first.passes + i * 2 ^ 22
@@ -36,6 +44,7 @@ pub at_start : (loads : Loads) (w : ℕ) (commands : List Command) (answers : An
 at_start loads w commands answers s can lines files full = record {
   replies = [];
   exports = [];
+  steps = refl;
   served = can.begins;
   can = can.can;
   few = omega arith;
@@ -75,6 +84,7 @@ module _ (loads : Loads) (w : ℕ) (commands : List Command) (i : ℕ) (answers 
       record {
         replies = h.replies ++ r ∷ [];
         exports = h.exports ++ new;
+        steps = subst (λ (xs : List Command). ServesAll loads first xs (h.replies ++ r ∷ []) next) (sym done) (serves_on loads cs h.replies first now next c r h.steps serves);
         served = subst (λ (xs : List Command). HasServed loads w xs (h.replies ++ r ∷ []) (h.exports ++ new) next) (sym done) (on w cs h.replies h.exports h.served);
         can = here.1 r next serves;
         few = omega (arith, uses, h.few);
@@ -89,15 +99,16 @@ module _ (loads : Loads) (w : ℕ) (commands : List Command) (i : ℕ) (answers 
         };
       }
 
-pub has_run : (loads : Loads) (w : ℕ) (commands : List Command) (i : ℕ) (answers : Answers) (first now : State) → length commands ≤ i → IsAt loads w commands i answers first now → HasRun loads w commands answers now
+pub has_run : (loads : Loads) (w : ℕ) (commands : List Command) (i : ℕ) (answers : Answers) (first now : State) → length commands ≤ i → IsAt loads w commands i answers first now → HasRun loads w commands answers first now
 has_run loads w commands i answers first now past h =
     let all : take i commands ≡ commands = take_all i commands past in
     record {
       replies = h.replies;
       exports = h.exports;
+      steps = subst (λ (cs : List Command). ServesAll loads first cs h.replies now) all h.steps;
       served = subst (λ (cs : List Command). HasServed loads w cs h.replies h.exports now) all h.served;
       answered = subst (λ (cs : List Command). AreOf cs h.replies h.exports answers) all h.answered;
     }
 
-pub numbered : (loads : Loads) (w : ℕ) (commands : List Command) (tables : Tables) (passes : List Known) (answers : Answers) → HasWorked loads w commands tables passes answers → IsNumbered w passes
-numbered loads w commands tables passes answers h = let r = h.ran in subst (IsNumbered w) (sym h.left) (number_is loads w h.state commands r.replies r.exports r.served)
+pub numbered : (loads : Loads) (w : ℕ) (commands : List Command) (first : State) (passes : List Known) (answers : Answers) → HasWorked loads w commands first passes answers → IsNumbered w passes
+numbered loads w commands first passes answers h = let r = h.ran in subst (IsNumbered w) (sym h.left) (number_is loads w h.state commands r.replies r.exports r.served)

@@ -3,7 +3,7 @@ use Rattle.std.specs.Prelude.{◌≡◌, ◌<◌, ◌≤◌, ◌-◌, ℕ, Bool,
 use Rattle.std.specs.Global.{Global}
 use Rattle.snap_fits.specs.Fits.{Front, Setting}
 use Rattle.snap_model.specs.History.{IsLegal, after}
-use Rattle.snap_steps.specs.Ending.{Ended}
+use Rattle.snap_steps.specs.Ending.{Ended, IsLastState}
 use Rattle.snap_steps.specs.Seen.{Known}
 use Rattle.snap_text.specs.Tables.{table_text}
 use Rattle.snap_text.specs.declared.script.Line.{Line}
@@ -16,12 +16,13 @@ use Rattle.snap_crew.specs.declared.answers.Answers.{Answers}
 use Rattle.snap_crew.specs.declared.ending.Ending.{Ending}
 use Rattle.snap_crew.specs.declared.scripts.Finished.{Finished}
 
--- a front tells its history truly
+-- a front tells its history truly, and was the table's last state: where it is told as worn, a row's stamp was at its greatest count there
 pub record IsTrue (rows : ℕ) (f : Ended) : Type 0 where
   pub legal : IsLegal f.last.view.seen
   pub writes : f.writes ≡ length f.last.view.seen
   pub pairs : f.pairs ≡ length (after f.last.view.seen)
   pub drawn : f.drawn ≤ rows
+  pub state : IsLastState f.last.view f.drawn
 
 -- some kit closed these tables
 pub record AreEnded (tables : Tables) (fronts : List Ended) : Type 0 where

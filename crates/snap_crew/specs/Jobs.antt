@@ -4,7 +4,7 @@ use Rattle.snap_model.specs.declared.command.Command.{Command}
 use Rattle.snap_text.specs.declared.script.Line.{Line}
 use Rattle.snap_text.specs.LoadFiles.{Loads}
 use Rattle.snap_service.specs.Runs.{CanRunAll}
-use Rattle.snap_service.specs.States.{State, Tables, free_slots}
+use Rattle.snap_service.specs.States.{State, Tables, free_slots, new_kit, opened}
 use Rattle.snap_crew.specs.Works.{CanWork, commands_of}
 use Rattle.snap_crew.specs.declared.crew.Done.{Done}
 use Rattle.snap_crew.specs.declared.crew.Job.{Job}
@@ -24,11 +24,11 @@ pub record IsTask (names : List (List ℕ)) (rows : ℕ) (loads : Loads) (script
   pub few : length scripts ≤ 32
   pub scripts_run : (i : ℕ) (d : List Line) → i < length scripts → IsScript names loads (commands_of (slice_index_or scripts i d))
 
--- the job of worker i on these tables
+-- the job of worker i on these tables: a session that was just opened with the kit of its number, and its commands
 pub record IsJob (loads : Loads) (tables : Tables) (commands : List Command) (i : ℕ) (job : Job) : Type 0 where
   pub who_is : job.who ≡ i
   pub commands_are : commands_of job.script.now ≡ commands
-  pub on : job.session.tables ≡ tables
+  pub on : job.session ≡ opened tables (new_kit tables.laid i)
   pub can : CanWork loads i job.session commands
 
 -- a worker had memory, and handed this over

@@ -1,5 +1,5 @@
 -- What a worker begins with, what it hands over, and what the closed tables make of it.
-use Rattle.std.specs.Prelude.{◌≡◌, ◌<◌, ◌≤◌, ◌+◌, ◌*◌, ◌^◌, ℕ, List, [], length, map, unwrap_or}
+use Rattle.std.specs.Prelude.{◌≡◌, ◌<◌, ◌≤◌, ◌+◌, ◌*◌, ◌^◌, ℕ, List, [], ◌∷◌, length, map, unwrap_or}
 use Rattle.snap_fits.specs.Fits.{Fits, Front, Setting, Told}
 use Rattle.snap_model.specs.SortedMap.{Pairs}
 use Rattle.snap_model.specs.declared.command.Command.{Command}
@@ -10,6 +10,7 @@ use Rattle.snap_text.specs.declared.script.Line.{Line}
 use Rattle.snap_service.specs.Courses.{fronts_of, setting}
 use Rattle.snap_text.specs.LoadFiles.{Loads}
 use Rattle.snap_service.specs.Runs.{CanRunAll, HasServed}
+use Rattle.snap_service.specs.Serving.{Serves}
 use Rattle.snap_service.specs.States.{AreSeated, State, Tables, most_uses, pass_at}
 use Rattle.snap_crew.specs.Answers.{AreOf, AreTold}
 use Rattle.snap_crew.specs.declared.answers.Answers.{Answers}
@@ -24,20 +25,27 @@ pub record CanWork (loads : Loads) (w : ℕ) (s : State) (commands : List Comman
   pub can : CanRunAll s loads commands
   pub few : most_uses s.passes + length commands * 2 ^ 22 ≤ 2 ^ 47
 
--- the session of worker w has run these commands, and the answers are of their replies and exports
-pub record HasRun (loads : Loads) (w : ℕ) (commands : List Command) (answers : Answers) (s : State) : Type 0 where
+-- each command was run in its turn: by the state that the one before it left, with its own reply
+abbrev pub ServesAll : Loads → State → List Command → List Reply → State → Type 0
+ServesAll loads a [] [] b = b ≡ a
+ServesAll loads a (c ∷ cs) (r ∷ rs) b = (mid : State) × Serves loads a c r mid × ServesAll loads mid cs rs b
+ServesAll loads a _ _ b = ⊥
+
+-- the session of worker w has run these commands from the first state to the last, and the answers are of their replies and exports
+pub record HasRun (loads : Loads) (w : ℕ) (commands : List Command) (answers : Answers) (first last : State) : Type 0 where
   pub replies : List Reply
   pub exports : List (List ℕ × Pairs)
-  pub served : HasServed loads w commands replies exports s
+  pub steps : ServesAll loads first commands replies last
+  pub served : HasServed loads w commands replies exports last
   pub answered : AreOf commands replies exports answers
 
--- worker w has run these commands on these tables, and left these passes and answers
-pub record HasWorked (loads : Loads) (w : ℕ) (commands : List Command) (tables : Tables) (passes : List Known) (answers : Answers) : Type 0 where
+-- worker w has run these commands from this state on, and left these passes and answers
+pub record HasWorked (loads : Loads) (w : ℕ) (commands : List Command) (first : State) (passes : List Known) (answers : Answers) : Type 0 where
   pub state : State
-  pub ran : HasRun loads w commands answers state
-  pub on : state.tables ≡ tables
+  pub ran : HasRun loads w commands answers first state
+  pub on : state.tables ≡ first.tables
   pub left : passes ≡ state.passes
-  pub seated : AreSeated tables passes
+  pub seated : AreSeated first.tables passes
 
 -- the number of each of these passes
 abbrev pub IsNumbered : ℕ → List Known → Type 0
@@ -52,4 +60,4 @@ pub record HasFit (s : Setting) (fronts : ℕ → Front) (w : ℕ) (commands : L
 
 -- what worker w did that left these passes fits the closed tables
 abbrev pub FitsIf : Tables → ℕ → List Known → List Ended → Type 0
-FitsIf tables w passes fronts = (loads : Loads) (cs : List Command) (answers : Answers) → HasWorked loads w cs tables passes answers → HasFit (setting tables loads) (fronts_of fronts) w cs answers
+FitsIf tables w passes fronts = (loads : Loads) (cs : List Command) (first : State) (answers : Answers) → first.tables ≡ tables → HasWorked loads w cs first passes answers → HasFit (setting tables loads) (fronts_of fronts) w cs answers

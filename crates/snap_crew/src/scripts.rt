@@ -3,7 +3,7 @@ ghost use Rattle.std.specs.Prelude.{◌≡◌, ◌<◌, ℕ, IfOk, length, slice
 ghost use Rattle.snap_crew.specs.Endings.{IsFinished};
 ghost use Rattle.snap_crew.specs.Jobs.{IsHanded, IsScript, IsTask};
 ghost use Rattle.snap_crew.specs.Works.{HasWorked, commands_of};
-ghost use Rattle.snap_service.specs.States.{AreTables, new_kit};
+ghost use Rattle.snap_service.specs.States.{AreTables, new_kit, opened};
 
 use crate::answers::Answers;
 use crate::crew::{Done, do_all};
@@ -93,7 +93,7 @@ fn run_jobs<R: Threads + Wait + Sync, T: Turn + Sync>(
     ensures receipts { IfOk result (λ parts. length parts.receipts.items ≡ length scripts.now) }
     ensures answers { IfOk result (λ parts. length parts.answers.items ≡ length scripts.now) }
     ensures worked { IfOk result (λ parts. (i : ℕ) (s : _) (d : _) (a : _) → i < length scripts.now →
-        HasWorked loads.now i (commands_of (slice_index_or scripts.now i s)) service.now (slice_index_or parts.receipts.items i d) (slice_index_or parts.answers.items i a)) }
+        HasWorked loads.now i (commands_of (slice_index_or scripts.now i s)) (opened service.now (new_kit service.now.laid i)) (slice_index_or parts.receipts.items i d) (slice_index_or parts.answers.items i a)) }
 {
     let jobs = open_jobs(alloc, service, kits, scripts, loads)?;
     let all = do_all(rt, alloc, loads, turn, jobs)?;

@@ -22,7 +22,7 @@ use Rattle.snap_plan.specs.Needs.{AllNew, all_commands, exports_named}
 use Rattle.snap_plan.specs.Runnable.{IsRunnable, files_written}
 use Rattle.snap_plan.specs.declared.plan.Plan.{Plan}
 use Rattle.snap_write.specs.Outputs.{HasBegun, HasWritten, IsUnwritten, Outputs, blank, names_of, text_for}
-use Rattle.snap_run.specs.Files.{answer_files, answers_in, export_files, exports_in, last_file, last_in, outputs, replies_in, reply_files, setting_for}
+use Rattle.snap_run.specs.Files.{answer_files, answer_names, answers_in, export_files, exports_in, last_file, last_in, names_written, outputs, replies_in, reply_files, setting_for}
 use Rattle.snap_run.specs.Outcomes.{OnlyWorkers}
 use Rattle.snap_run.specs.Printed.{entries, first_line, fulls, summary, table_lines}
 use Rattle.snap_run.specs.Reports.{fulls_in, lines_in, summary_in}
@@ -96,26 +96,28 @@ module _ (plan : Plan) (runs : IsRunnable plan) (replied : IfSome plan.replies (
         own = elim x.final [ inl none ↦ inl none | inr one ↦ inr ((one.0, λ no. (let both : Some name ≡ None = sym e ∙ no in absurd cc)), one.1) ];
       }
 
-  -- the files that are written all differ
-  pub files_differ : Differ (names_of outs)
-  files_differ = by plan.replies refl
+  -- their names, which all differ
+  pub outs_named : names_of outs ≡ names_written plan
+  outs_named =
+      names_append (answers_in plan.replies bs) (last_in plan.last f.last)
+      ∙ ap₂ (λ (a b : List (List ℕ)). a ++ b) (by plan.replies replied) (ap names_of (last_is plan.last f.last (fronts 0) fin.text) ∙ last_names plan.last (fronts 0))
     where
-      last_named : names_of (last_in plan.last f.last) ≡ option_to_list plan.last
-      last_named = ap names_of (last_is plan.last f.last (fronts 0) fin.text) ∙ last_names plan.last (fronts 0)
+      by : (o : Option (List (List ℕ))) → IfSome o (λ ns. length ns ≡ length plan.scripts) → names_of (answers_in o bs) ≡ answer_names o (exports_named (all_commands plan.scripts))
+      by None h = refl
+      by (Some names) many =
+          names_append (replies_in names bs) (exports_in bs)
+          ∙ ap₂ (λ (a b : List (List ℕ)). a ++ b) (reply_names names bs (omega (arith, many, fin.answers_each))) (ap names_of (told_exports s fronts 0 plan.scripts bs fit) ∙ told_names s fronts 0 plan.scripts bs fit)
 
-      by : (o : Option (List (List ℕ))) → plan.replies ≡ o → Differ (names_of (answers_in o bs ++ last_in plan.last f.last))
-      by None e = subst (λ (ns : List (List ℕ)). Differ ns) (sym last_named) (one_differs plan.last)
+  pub files_differ : Differ (names_of outs)
+  files_differ = subst (λ (ns : List (List ℕ)). Differ ns) (sym outs_named) (by plan.replies refl)
+    where
+      by : (o : Option (List (List ℕ))) → plan.replies ≡ o → Differ (answer_names o (exports_named (all_commands plan.scripts)) ++ option_to_list plan.last)
+      by None e = one_differs plan.last
       by (Some names) e =
-          let many : length names ≡ length plan.scripts = subst (λ (o : Option (List (List ℕ))). IfSome o (λ ns. length ns ≡ length plan.scripts)) e replied in
-          let named : names_of (answers_in (Some names) bs ++ last_in plan.last f.last) ≡ files_written plan =
-          names_append (replies_in names bs ++ exports_in bs) (last_in plan.last f.last)
-          ∙ ap₂ (λ (a b : List (List ℕ)). a ++ b)
-          (names_append (replies_in names bs) (exports_in bs)
-          ∙ ap₂ (λ (a b : List (List ℕ)). a ++ b) (reply_names names bs (omega (arith, many, fin.answers_each))) (ap names_of (told_exports s fronts 0 plan.scripts bs fit) ∙ told_names s fronts 0 plan.scripts bs fit))
-          last_named
-          ∙ append_assoc names (exports_named (all_commands plan.scripts)) (option_to_list plan.last)
+          let all : answer_names (Some names) (exports_named (all_commands plan.scripts)) ++ option_to_list plan.last ≡ files_written plan =
+          append_assoc names (exports_named (all_commands plan.scripts)) (option_to_list plan.last)
           ∙ ap (λ (o : Option (List (List ℕ))). unwrap_or o [] ++ (exports_named (all_commands plan.scripts) ++ option_to_list plan.last)) (sym e) in
-          subst (λ (ns : List (List ℕ)). Differ ns) (sym named) (new_differ (files_written plan) runs.written)
+          subst (λ (ns : List (List ℕ)). Differ ns) (sym all) (new_differ (files_written plan) runs.written)
 
   pub a_worker_each : length (unwrap_or plan.replies []) ≤ length bs
   a_worker_each = by plan.replies replied

@@ -144,11 +144,11 @@ by_stop r names (stop.Limit name line limit) status old now words same is = subs
 by_stop r names (stop.Record name number) status old now words same is = subst (λ r. HasStatus r status old now) (sym same) (wanted_status (stop.Record name number) status old now is)
 by_stop r names (stop.LongLoad name) status old now words same is = subst (λ r. HasStatus r status old now) (sym same) (wanted_status (stop.LongLoad name) status old now is)
 
-pub stop_status : (ws : List (List ℕ)) (files : Option Files) (s : Stop) (status : ℕ) (old now : World) (said : Type 0) → (IsErr (job_of ws) → IsOfWords {A = Plan} (Err s)) → StopsBy files (ending_of ws) (inputs_of ws) (Rose old.reading now.reading) s
-    → (status ≡ 6) ⊎ ((status ≡ status_of s) × said) → IfTold files (λ f. HasStatus (ending_of ws f) status old now)
-stop_status ws None s status old now said words stops ended = tt
-stop_status ws (Some f) s status old now said words stops (inl is) = memory_status (ending_of ws f) status old now is
-stop_status ws (Some f) s status old now said words stops (inr is) = by_stop (ending_of ws f) (inputs_of ws f) s status old now (λ why same. words (refused_words ws f why same)) stops is.0
+pub stop_status : (ws : List (List ℕ)) (files : Option Files) (s : Stop) (status : ℕ) (old now : World) → (IsErr (job_of ws) → IsOfWords {A = Plan} (Err s)) → StopsBy files (ending_of ws) (inputs_of ws) (Rose old.reading now.reading) s
+    → (status ≡ 6) ⊎ (status ≡ status_of s) → IfTold files (λ f. HasStatus (ending_of ws f) status old now)
+stop_status ws None s status old now words stops ended = tt
+stop_status ws (Some f) s status old now words stops (inl is) = memory_status (ending_of ws f) status old now is
+stop_status ws (Some f) s status old now words stops (inr is) = by_stop (ending_of ws f) (inputs_of ws f) s status old now (λ why same. words (refused_words ws f why same)) stops is
 
 -- a fact of a made plan that follows from another
 pub of_made : (job : Result Job WordsRefusal) (before after : Plan → Type 0) → ((plan : Plan) → before plan → after plan) → OfMade job before → OfMade job after

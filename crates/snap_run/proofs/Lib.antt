@@ -7,4 +7,5 @@ pub mod Tasks
 pub mod Carried
 pub mod Settled
 pub mod Whole
+pub mod Kept
 pub mod Ended

@@ -28,7 +28,7 @@ pub if_ok_as : {T E : Type 0} (r : Result T E) (P Q : T → Type 0) → ((x : T)
 if_ok_as (Ok x) P Q f h = f x h
 if_ok_as (Err e) P Q f h = tt
 
-any_left : (xs ys : List (List ℕ)) (name : List ℕ) → list_any (λ known. bytes_eq known name) xs ≡ true → list_any (λ known. bytes_eq known name) (xs ++ ys) ≡ true
+pub any_left : (xs ys : List (List ℕ)) (name : List ℕ) → list_any (λ known. bytes_eq known name) xs ≡ true → list_any (λ known. bytes_eq known name) (xs ++ ys) ≡ true
 any_left xs ys name is = list_any-append (λ known. bytes_eq known name) xs ys ∙ ap (λ b. b || list_any (λ known. bytes_eq known name) ys) is
 
 any_right : (xs ys : List (List ℕ)) (name : List ℕ) → list_any (λ known. bytes_eq known name) ys ≡ true → list_any (λ known. bytes_eq known name) (xs ++ ys) ≡ true

@@ -20,7 +20,7 @@ use Rattle.snap_service.proofs.Slots.{AllServed, IsServed}
 use Rattle.snap_crew.specs.Jobs.{IsScript as CanBeRun, IsTask}
 use Rattle.snap_crew.specs.Works.{commands_of}
 use Rattle.snap_plan.specs.Needs.{all_commands, among, load_in, loads_named, main_table, table_in, tables_named, with_name}
-use Rattle.snap_plan.specs.Runnable.{AllInRange, IsKnown, IsRunnable, IsScript}
+use Rattle.snap_plan.specs.Runnable.{AllInRange, IsRunnable, IsScript}
 use Rattle.snap_plan.specs.declared.plan.Plan.{Plan}
 use Rattle.snap_plan.proofs.Names.{among-push, bytes_same}
 
@@ -138,19 +138,18 @@ file_fits loads name all = go (file_of loads name) refl
 
 -- each command of a script finds the table or the file that it names, and its value fits
 served : (names : List (List ℕ)) (loads : Loads) (lines : List Line) → AllNamed table_in names (commands_of lines) → AllNamed load_in (map (λ file. file.0) loads) (commands_of lines) → AllInRange loads
-    → All (λ (line : Line). HasValueInRange line.command) lines → All (λ (line : Line). IsKnown line.command) lines → AllServed names loads (commands_of lines)
-served names loads [] tables files range values known = tt
-served names loads (line ∷ lines) tables files range values known = (
-  of_command line.command tables.0 files.0 (values 0 line (omega arith)) (known 0 line (omega arith)),
-  served names loads lines tables.1 files.1 range (λ i d l. values (suc i) d (omega (arith, l))) (λ i d l. known (suc i) d (omega (arith, l))),
+    → All (λ (line : Line). HasValueInRange line.command) lines → AllServed names loads (commands_of lines)
+served names loads [] tables files range values = tt
+served names loads (line ∷ lines) tables files range values = (
+  of_command line.command tables.0 files.0 (values 0 line (omega arith)),
+  served names loads lines tables.1 files.1 range (λ i d l. values (suc i) d (omega (arith, l))),
 )
   where
-    of_command : (c : Command) → IfNamed names (table_in c) → IfNamed (map (λ file. file.0) loads) (load_in c) → HasValueInRange c → IsKnown c → IsServed names loads c
-    of_command (command.Table name) table file value known = has_place names name table
-    of_command (command.Load name) table file value known = (has_file loads name file, file_fits loads name range)
-    of_command (command.Put key v) table file value known = omega (arith, value)
-    of_command (command.Depth slot) table file value known = known
-    of_command _ table file value known = tt
+    of_command : (c : Command) → IfNamed names (table_in c) → IfNamed (map (λ file. file.0) loads) (load_in c) → HasValueInRange c → IsServed names loads c
+    of_command (command.Table name) table file value = has_place names name table
+    of_command (command.Load name) table file value = (has_file loads name file, file_fits loads name range)
+    of_command (command.Put key v) table file value = omega (arith, value)
+    of_command _ table file value = tt
 
 kept_length : (names xs : List (List ℕ)) → 1 ≤ length names → 1 ≤ length (fold with_name names xs)
 kept_length names [] l = l
@@ -173,7 +172,7 @@ is_task plan r = record {
       let tables = named_at table_in plan.tables plan.scripts i d l (all_named table_in (main_table ∷ []) (all_commands plan.scripts) plan.tables r.tables) in
       let files = named_at load_in (map (λ file. file.0) plan.loads) plan.scripts i d l (all_named load_in [] (all_commands plan.scripts) (map (λ file. file.0) plan.loads) r.loads) in
       record {
-        can = λ st named free. script_can_run plan.tables plan.loads lines s.uses (served plan.tables plan.loads lines tables files r.in_range s.in_range s.known) st named free;
+        can = λ st named free. script_can_run plan.tables plan.loads lines s.uses (served plan.tables plan.loads lines tables files r.in_range s.in_range) st named free;
         few = omega (arith, s.few, length-map lines (λ (line : Line). line.command));
       };
 }

@@ -1,5 +1,6 @@
 -- The files that a run writes, by what its commands were told.
-use Rattle.std.specs.Prelude.{◌≡◌, ◌<◌, ◌++◌, ℕ, List, [], ◌∷◌, Option, Some, None, Result, Ok, Err, ⊤, Vec, flat_map, length, slice_index_or, unwrap_or}
+use Rattle.std.specs.Prelude.{◌≡◌, ◌⊎◌, ◌<◌, ◌++◌, ℕ, IsTrue, List, [], ◌∷◌, Option, Some, None, Result, Ok, Err, ⊤, Vec, flat_map, length, slice_index_or, unwrap_or}
+use Rattle.std.specs.Option.{option_to_list}
 use Rattle.std.specs.Global.{Global}
 use Rattle.snap_fits.specs.Fits.{Front, Setting, Told}
 use Rattle.snap_io.specs.Shelves.{Changes, Files}
@@ -10,7 +11,9 @@ use Rattle.snap_service.specs.Courses.{fronts_of}
 use Rattle.snap_crew.specs.Answers.{files_of, lines_of}
 use Rattle.snap_crew.specs.Endings.{setting_of}
 use Rattle.snap_crew.specs.declared.answers.Answers.{Answers}
+use Rattle.snap_plan.specs.Needs.{all_commands, among, exports_named}
 use Rattle.snap_plan.specs.declared.plan.Plan.{Plan}
+use Rattle.snap_plan.specs.declared.stop.Stop.{Stop}
 use Rattle.snap_write.specs.Outputs.{HasBegun, HasWritten, IsUnwritten, Outputs, names_of}
 use Rattle.snap_write.specs.declared.unwritten.Unwritten.{Unwritten}
 
@@ -40,6 +43,23 @@ answer_files (Some names) s fronts told = reply_files names told ++ export_files
 -- all files that a run writes, with their texts
 abbrev pub outputs : Plan → List (List Told) → List Ended → Outputs
 outputs plan told fronts = answer_files plan.replies (setting_for plan) (fronts_of fronts) told ++ last_file plan.last (fronts_of fronts 0)
+
+-- the names of all files that a plan may write: where the replies have files, these and the exports; and the final file
+abbrev pub answer_names : Option (List (List ℕ)) → List (List ℕ) → List (List ℕ)
+answer_names None exports = []
+answer_names (Some names) exports = names ++ exports
+
+abbrev pub names_written : Plan → List (List ℕ)
+names_written plan = answer_names plan.replies (exports_named (all_commands plan.scripts)) ++ option_to_list plan.last
+
+-- those that a run may write, by what its words and files give: none where it is stopped
+abbrev pub names_given : Result Plan Stop → List (List ℕ)
+names_given (Ok plan) = names_written plan
+names_given (Err stop) = []
+
+-- every file but those of these names is as it was
+abbrev pub KeepsOthers : List (List ℕ) → Files → Files → Type 0
+KeepsOthers names old new = (name : List ℕ) → (new name ≡ old name) ⊎ IsTrue (among names name)
 
 -- the same files by what the workers handed over
 abbrev pub replies_in : List (List ℕ) → List Answers → Outputs

@@ -86,11 +86,13 @@ pub record IsCarriedOut (words : List (List ℕ)) (old now : World) (o : Outcome
   pub of_words : IsPlanOf words old plan
   pub carried : IsCarried plan old now o
 
--- the run was stopped before it had a plan, for the first reason: that was told, and nothing else was touched
+-- the run was stopped before it had a plan, for the first reason: that was told, or its front where a print failed, and no
+-- file was touched; words that ask for made scripts are no reason
 pub record IsStopped (words : List (List ℕ)) (old now : World) (status : ℕ) : Type 0 where
   pub why : Stop
   pub status_is : status ≡ status_of why
   pub refused : IsRefusedBy (job_of words) why
+  pub unmade : OfMade (job_of words) (λ made. ⊥)
   pub cause : StopsBy old.files (ending_of words) (inputs_of words) (Rose old.reading now.reading) why
   pub untouched : now.files ≡ old.files
   pub unwritten : now.writing ≡ old.writing

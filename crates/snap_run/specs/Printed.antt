@@ -33,3 +33,7 @@ summary plan told fronts = first_line (length told) (entries told) (fulls told) 
 
 abbrev pub fault_text : List ℕ → List ℕ
 fault_text name = codes "write fault: " ++ name ++ codes "\n"
+
+-- what is printed where memory was wanting
+abbrev pub memory_text : List ℕ
+memory_text = codes "out of memory\n"

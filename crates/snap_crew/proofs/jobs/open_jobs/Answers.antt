@@ -2,7 +2,7 @@ use Rattle.std.specs.Prelude.{slice_index_or}
 use Rattle.std.proofs.Common.{ℕ, ◌≡◌, ◌<◌, ◌+◌, List, [], ◌∷◌, ◌++◌, length, sym, ap, subst, ◌∙◌, arith}
 use Rattle.snap_steps.specs.Seen.{Known}
 use Rattle.snap_text.specs.declared.script.Line.{Line}
-use Rattle.snap_service.specs.States.{AreSeated, new_kit}
+use Rattle.snap_service.specs.States.{AreSeated, new_kit, opened}
 use Rattle.snap_service.proofs.Ending.{fewer_is, last_is, one_less}
 use Rattle.snap_crew.specs.Jobs.{IsJob}
 use Rattle.snap_crew.specs.Works.{commands_of}
@@ -35,7 +35,7 @@ loop-kit-preserved c =
           (record {
             who_is = here;
             commands_are = ap commands_of (script d);
-            on = ap (λ x. x.tables) c.in-Ok.ensures.ok;
+            on = c.in-Ok.ensures.ok ∙ ap (λ (k : List Known). opened c.args.service.now k) is;
             can = can_work c.args.loads.now c.args.service.now (length fewer) kit c.in-Ok.session (commands_of (slice_index_or scripts (length fewer) d)) is c.in-Ok.ensures.ok c.in-Ok.ensures.begins (c.requires.scripts (length fewer) d within);
           }) (v.jobs d);
     }

@@ -2,7 +2,7 @@ use Rattle.std.proofs.Common.{◌≡◌, ◌<◌, ◌+◌, ◌^◌, ℕ, List, [
 use Rattle.snap_steps.specs.Seen.{Known}
 use Rattle.snap_service.specs.Courses.{fronts_of}
 use Rattle.snap_service.specs.Kits.{IsUncut}
-use Rattle.snap_service.specs.States.{AreSeated, new_kit, pass_at}
+use Rattle.snap_service.specs.States.{AreSeated, new_kit, opened, pass_at}
 use Rattle.snap_crew.specs.Endings.{AreWorkers, IsTrue}
 use Rattle.snap_crew.specs.Works.{commands_of}
 use Rattle.snap_crew.proofs.Beginning.{first_uses, left_new, new_seated, new_uncut, own_new, some_of}
@@ -34,7 +34,7 @@ end_run-requires-clause-numbered g c i d l =
     let li : i < length c.args.task.now.scripts.now = omega (arith, l, c.in_ok-parts.ensures.receipts) in
     let s = some_of c.args.task.now.scripts.now i li in
     let a = some_of c.in_ok-parts.parts.answers.items i (omega (arith, li, c.in_ok-parts.ensures.answers)) in
-    numbered c.args.task.now.loads.now i (commands_of (slice_index_or c.args.task.now.scripts.now i s)) c.in_ok-service.service (slice_index_or c.in_ok-parts.parts.receipts.items i d) (slice_index_or c.in_ok-parts.parts.answers.items i a)
+    numbered c.args.task.now.loads.now i (commands_of (slice_index_or c.args.task.now.scripts.now i s)) (opened c.in_ok-service.service (new_kit c.in_ok-service.service.laid i)) (slice_index_or c.in_ok-parts.parts.receipts.items i d) (slice_index_or c.in_ok-parts.parts.answers.items i a)
     (c.in_ok-parts.ensures.worked i s d a li)
 
 pub end_run-requires-clause-uses : goal.end_run-requires-clause-uses
@@ -50,6 +50,6 @@ returns g c =
       workers = subst (λ (n : ℕ). AreWorkers n c.args.task.now.last fronts) c.in_ok-parts.ensures.receipts end.workers;
       answers_each = c.in_ok-parts.ensures.answers;
       fits = λ w d a l. named_fit c.in_ok-service.service names rows (length scripts) loads (fronts_of fronts) w (commands_of (slice_index_or scripts w d)) (slice_index_or parts.answers.items w a) s.names_are s.rows_are (omega (arith, s.kits_are))
-          (end.fits w [] (omega (arith, l, c.in_ok-parts.ensures.receipts)) loads (commands_of (slice_index_or scripts w d)) (slice_index_or parts.answers.items w a) (c.in_ok-parts.ensures.worked w d [] a l));
+          (end.fits w [] (omega (arith, l, c.in_ok-parts.ensures.receipts)) loads (commands_of (slice_index_or scripts w d)) (opened c.in_ok-service.service (new_kit c.in_ok-service.service.laid w)) (slice_index_or parts.answers.items w a) refl (c.in_ok-parts.ensures.worked w d [] a l));
       text = end.text;
     }

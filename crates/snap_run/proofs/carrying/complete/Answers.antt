@@ -1,12 +1,13 @@
-use Rattle.std.specs.Prelude.{IfOk, OnOk, is_some, unwrap_or}
+use Rattle.std.specs.Prelude.{IfOk, OnOk, ◌++◌, is_some, unwrap_or}
 use Rattle.std.proofs.Common.{◌≡◌, List, [], ℕ, Bool, subst, sym}
 use Rattle.snap_io.specs.Shelves.{Changes, IfTold}
 use Rattle.snap_text.specs.declared.script.Line.{Line}
 use Rattle.snap_crew.specs.Jobs.{IsTask}
 use Rattle.snap_write.specs.Outputs.{HasWritten, blank}
-use Rattle.snap_run.specs.Files.{AreBlank}
+use Rattle.snap_run.specs.Files.{AreBlank, KeepsOthers, answers_in, last_in, names_written}
 use Rattle.snap_run.specs.Worlds.{world}
-use Rattle.snap_run.proofs.Carried.{a_worker_each, few_commands, few_full, files_differ}
+use Rattle.snap_run.proofs.Carried.{a_worker_each, few_commands, few_full, files_differ, outs_named}
+use Rattle.snap_run.proofs.Kept.{after_kept, kept_through, made_kept}
 use Rattle.snap_run.proofs.Results.{both_ok, on_ok}
 use Rattle.snap_run.proofs.Tasks.{is_task}
 use Rattle.snap_run.proofs.Whole.{fin_of, replies_differ, whole}
@@ -55,3 +56,15 @@ returns-clause-carried g c =
     (λ o same told. whole plan c.requires.runnable c.requires.a_worker_each f fin old now (g.S.Shelf.files c.create_replies-made.new.shelf) (g.S.Shelf.write_faults c.create_replies-made.new.shelf) c.create_replies-made.result c.write_if_made-written.result o same
     c.create_replies-made.ensures.later c.write_if_made-written.ensures.later c.create_replies-made.ensures.written c.create_replies-made.ensures.begun c.create_replies-made.ensures.stops c.write_if_made-written.ensures.after told)
     c.report.ensures.fronts c.report.ensures.told
+
+pub returns-in_err-finished-clause-kept : goal.returns-in_err-finished-clause-kept
+returns-in_err-finished-clause-kept g c = made_kept c.args.plan.now c.create_replies-made.result (g.S.Shelf.files c.args.shelf.now) (g.S.Shelf.files c.create_replies-made.new.shelf) c.create_replies-made.ensures.written c.create_replies-made.ensures.begun
+
+pub returns-clause-kept : goal.returns-clause-kept
+returns-clause-kept g c =
+    let plan = c.args.plan.now in let f = c.in_ok-finished.finished in let fin = fin_of plan f _ _ _ c.list.ensures c.list-2.ensures c.is_some.ensures c.in_ok-finished.ensures in
+    let old = g.S.Shelf.files c.args.shelf.now in let mid = g.S.Shelf.files c.create_replies-made.new.shelf in let new = g.S.Shelf.files c.write_if_made-written.new.shelf in
+    kept_through (names_written plan) old mid new
+    (made_kept plan c.create_replies-made.result old mid c.create_replies-made.ensures.written c.create_replies-made.ensures.begun)
+    (subst (λ (ns : List (List ℕ)). Changes mid new (KeepsOthers ns)) (outs_named plan c.requires.runnable c.requires.a_worker_each f fin)
+    (after_kept c.create_replies-made.result c.write_if_made-written.result (answers_in plan.replies f.answers.items ++ last_in plan.last f.last) mid new _ c.write_if_made-written.ensures.after))
