@@ -8,6 +8,8 @@ mod growing;
 #[cfg(test)]
 mod made;
 #[cfg(test)]
+mod pieces;
+#[cfg(test)]
 mod plans;
 #[cfg(test)]
 mod words;

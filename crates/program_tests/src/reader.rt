@@ -93,13 +93,15 @@ fn reads_the_commands_of_clones_and_files(rt: HostRuntime) {
         clone a\nceiling a 3~1 Snap { slot: 0, name: Name { text: \"a\" } };2 Ceiling { slot: 0, key: 3 };|\
         clone a\nhigher a 4~1 Snap { slot: 0, name: Name { text: \"a\" } };2 Higher { slot: 0, key: 4 };|\
         clone a\ncount a 9 1~1 Snap { slot: 0, name: Name { text: \"a\" } };2 Count { slot: 0, lo: 9, hi: 1 };|\
+        clone a\ndepth a~1 Snap { slot: 0, name: Name { text: \"a\" } };2 Depth { slot: 0 };|\
+        clone a\nclone b\ndepth b\ndrop a\ndepth b~1 Snap { slot: 0, name: Name { text: \"a\" } };2 Snap { slot: 1, name: Name { text: \"b\" } };3 Depth { slot: 1 };4 Forget { slot: 0, name: Name { text: \"a\" } };5 Depth { slot: 1 };|\
         clone a\nexport a 0 9 e~1 Snap { slot: 0, name: Name { text: \"a\" } };2 Export { slot: 0, lo: 0, hi: 9, file: Name { text: \"e\" } };|\
         clone a\nclone b\nlast b~1 Snap { slot: 0, name: Name { text: \"a\" } };2 Snap { slot: 1, name: Name { text: \"b\" } };3 Last { slot: 1 };|\
         clone a\nuse t\nlast a~1 Snap { slot: 0, name: Name { text: \"a\" } };2 Table { name: Name { text: \"t\" } };3 Last { slot: 0 };|\
         clone a\ndrop a\nclone a~1 Snap { slot: 0, name: Name { text: \"a\" } };2 Forget { slot: 0, name: Name { text: \"a\" } };3 Snap { slot: 0, name: Name { text: \"a\" } };|\
         clone a\nclone b\ndrop a\nclone c\nlast b\nfirst c~1 Snap { slot: 0, name: Name { text: \"a\" } };2 Snap { slot: 1, name: Name { text: \"b\" } };3 Forget { slot: 0, name: Name { text: \"a\" } };4 Snap { slot: 0, name: Name { text: \"c\" } };5 Last { slot: 1 };6 First { slot: 0 };",
     );
-    is(&rt, count, 17);
+    is(&rt, count, 19);
 }
 
 #[test]
@@ -117,8 +119,13 @@ fn refuses_bad_names_and_clones(rt: HostRuntime) {
         clone a\ndrop b~line 2: no such clone|\
         clone a\nfirst A~line 2: no such clone|\
         get 1\nlast a\nclone a~line 2: no such clone|\
-        depth a~line 1: unknown word|\
-        clone a\ndepth a~line 2: unknown word|\
+        depth a~line 1: no such clone|\
+        clone a\ndrop a\ndepth a~line 3: no such clone|\
+        depth~line 1: wrong number of words|\
+        clone a\ndepth a 1~line 2: wrong number of words|\
+        depth a!~line 1: bad name|\
+        Depth a~line 1: unknown word|\
+        deep a~line 1: unknown word|\
         Clone a~line 1: unknown word|\
         use~line 1: wrong number of words|\
         use a b~line 1: wrong number of words|\
@@ -139,7 +146,7 @@ fn refuses_bad_names_and_clones(rt: HostRuntime) {
         use a23456789_123456789_123456789_123~line 1: bad name|\
         see a -1~line 1: bad number",
     );
-    is(&rt, count, 29);
+    is(&rt, count, 34);
 }
 
 /// The lines `clone c0`, `clone c1` and so on.

@@ -6,6 +6,12 @@ mod asserts;
 #[cfg(test)]
 mod cases;
 #[cfg(test)]
+mod failing;
+#[cfg(test)]
+mod limits;
+#[cfg(test)]
 mod long;
 #[cfg(test)]
 mod meeting;
+#[cfg(test)]
+mod turns;

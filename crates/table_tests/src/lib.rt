@@ -1,14 +1,20 @@
-//! Tests of the crates that the concurrent table stands on, by their public calls. They stand in a crate of their own, so
-//! that the others are proved once and not once more with their tests.
+//! Tests of tables by their public calls, by one thread in turns and by several at once. They stand in a crate of their
+//! own, so that the table's crate is proved once and not once more with its tests.
 #![tactic(auto)]
 
 #[cfg(test)]
 mod asserts;
 #[cfg(test)]
-mod draws;
+mod balance;
 #[cfg(test)]
-mod grips;
+mod clones;
 #[cfg(test)]
-mod stopped;
+mod map;
+#[cfg(test)]
+mod meeting;
+#[cfg(test)]
+mod ordered;
+#[cfg(test)]
+mod states;
 #[cfg(test)]
 mod stress;

@@ -4,4 +4,4 @@ use Rattle.table_tests.proofs.stress.write_eight.Given as goal
 
 -- one use a turn
 abbrev pub invariant-loop-turn : goal.invariant-loop-turn
-invariant-loop-turn g l = IsReadyTo l.table l.fn.keys.who (9 * l.fn.round + l.turn) l.pass
+invariant-loop-turn g l = IsReadyTo l.table l.fn.who (9 * l.fn.round.number + l.turn) l.pass

@@ -1,0 +1,130 @@
+-- Rows that a pass takes one below the other.
+use Rattle.std.proofs.Common.{◌≡◌, ◌≢◌, inl, inr, refl, Some, ℕ, ◌<◌, ◌≤◌, List, [], ◌∷◌, sym, ap, ◌∙◌, subst, arith}
+use Rattle.snap_copy.specs.Mending.{Firm, Looks, NoWord}
+use Rattle.snap_locks.specs.Held.{HasLocked}
+use Rattle.snap_repair.proofs.Mending.{firm_on, grip_firm, locked_firm, read_looks}
+use Rattle.snap_repair.specs.Answers.{IsMending}
+use Rattle.snap_shape.specs.Grips.{HasGrip, IsEdge, Leads, edge_at, turn_at}
+use Rattle.snap_shape.specs.declared.grip.Edge.{Edge}
+use Rattle.snap_rule.specs.Debt.{no_debt}
+use Rattle.snap_stamp.specs.Stamps.{count_of, last_count}
+use Rattle.snap_shape.specs.declared.grip.Grip.{Grip}
+use Rattle.snap_shape.proofs.Touching.{loaded_here}
+use Rattle.snap_stamp.specs.declared.layout.Field.{Field}
+use Rattle.snap_stamp.specs.declared.layout.Field.TheVariants.{Left, Right, Value}
+use Rattle.snap_stamp.specs.declared.side.Side.{Side}
+use Rattle.snap_stamp.specs.declared.side.Side.TheVariants as sides
+use Rattle.snap_steps.proofs.Totals.{one_other, one_same}
+use Rattle.snap_steps.specs.Counting.{Among, times}
+use Rattle.snap_steps.specs.Facts.{IsKnown}
+use Rattle.snap_steps.specs.Seen.{Becomes, IsOf, Known, Laid}
+use Rattle.snap_steps.specs.States.{link_field}
+use Rattle.snap_steps.specs.Steps.Fields.{read}
+use Rattle.row_tests.specs.Stopping.{HoldsOnly, MayTurn, MayUnlink, Takes, TakesEdge}
+
+pub grip_kept : (a b : Known) (g : Grip) → Firm a b NoWord → HasGrip a.view g → HasGrip b.view g
+grip_kept a b g f h = grip_firm a b NoWord g f (λ z. z) (λ z. z) (λ z. z) h
+
+pub edge_kept : (a b : Known) (upper lower : Grip) (d : Side) → Firm a b NoWord → IsEdge a.view (edge_at upper d lower) → IsEdge b.view (edge_at upper d lower)
+edge_kept a b upper lower d f e = record {
+  above = grip_kept a b upper f e.above;
+  below = grip_kept a b lower f e.below;
+  leads = f.knows upper.row (link_field d) lower.row (λ z. z) e.leads;
+  is_row = e.is_row;
+  on_right = e.on_right;
+  apart = e.apart;
+}
+
+pub mending_kept : (a b : Known) → Firm a b NoWord → IsMending a.view → IsMending b.view
+mending_kept a b f m = record {
+  writing = (m.writing.0, m.writing.1, ap (λ (k : Known). k.view.stage) f.mends.is ∙ m.writing.2);
+  whole = f.mends.whole ∙ m.whole;
+}
+
+-- row 0 alone is held
+pub top_only : (a b c : Known) (upper lower : ℕ) → a.view.holds ≡ [] → HasLocked a b 0 → Looks b c → HoldsOnly c.view upper lower
+top_only a b c upper lower free l s =
+    let holds : c.view.holds ≡ 0 ∷ [] = s.1 ∙ (locked_firm a b 0 l).1 ∙ ap (λ (x : List ℕ). 0 ∷ x) free in
+    λ r nz n1 n2. omega (arith, ap (times r) holds, one_other r 0 nz)
+
+pub takes : (rows : ℕ) (a b c d : Known) (upper n : ℕ) (parent child : Grip) (side : Side) → Becomes a b (read a.view parent.row (link_field side) n) → HasLocked b c n → Looks c d → child.row ≡ n → HasGrip d.view child → HasGrip a.view parent → Leads b.view parent.row side n → n ≢ 0 → n ≢ upper → n ≢ parent.row → n ≤ rows → (parent.row ≡ 0 → side ≡ sides.Right) → HoldsOnly a.view upper parent.row → Takes rows a d upper parent side child
+takes rows a b c d upper n parent child side load l s is grip above leads nz n1 n2 low right only =
+    let first = read_looks a b parent.row (link_field side) n load in
+    let second = locked_firm b c n l in
+    let on : Firm b d NoWord = firm_on b c d second.0 s.0 in
+    let all : Firm a d NoWord = firm_on a b d first.0 on in
+    let holds : d.view.holds ≡ n ∷ a.view.holds = s.1 ∙ second.1 ∙ ap (λ (x : List ℕ). n ∷ x) first.1 in record {
+      firm = all;
+      edge = record {
+        above = grip_kept a d parent all above;
+        below = grip;
+        leads = subst (λ (x : ℕ). IsKnown d.view.knows parent.row (link_field side) x) (sym is) (on.knows parent.row (link_field side) n (λ z. z) leads);
+        is_row = λ z. nz (sym is ∙ z);
+        on_right = right;
+        apart = λ z. n2 (sym is ∙ sym z);
+      };
+      low = omega (arith, is, low);
+      apart = λ z. n1 (sym is ∙ z);
+      only = λ r rz r1 r2 r3. omega (arith, ap (times r) holds, only r rz r1 r2, one_more r n a.view.holds (λ z. r3 (z ∙ sym is)));
+    }
+  where
+    one_more : (r m : ℕ) (l : List ℕ) → r ≢ m → times r (m ∷ l) ≡ times r l
+    one_more r m l ne = omega (arith, one_other r m ne)
+
+-- the root is taken, and then its child
+pub root_only : (rows : ℕ) (a b : Known) (top root : Grip) (side : Side) → top.row ≡ 0 → Takes rows a b 0 top side root → HoldsOnly b.view 0 root.row
+root_only rows a b top root side is t = λ r nz n1 n2. t.only r nz n1 (λ z. nz (z ∙ is)) n2
+
+pub takes_edge : (rows : ℕ) (a b c d e : Known) (top root row : Grip) (up side : Side) → HasLocked a b 0 → Looks b c → Takes rows c d 0 top up root → Takes rows d e 0 root side row → TakesEdge rows a e (edge_at root side row)
+takes_edge rows a b c d e top root row up side l s t u = record {
+  firm = firm_on a c e (firm_on a b c (locked_firm a b 0 l).0 s.0) (firm_on c d e t.firm u.firm);
+  edge = u.edge;
+  low = (t.low, u.low);
+  some = t.edge.is_row;
+  zero = (firm_on b c e s.0 (firm_on c d e t.firm u.firm)).held 0 (omega (arith, ap (times 0) (locked_firm a b 0 l).1, one_same 0 0 refl));
+  only = λ r nz n1 n2. u.only r nz nz n1 n2;
+}
+
+pub of_kept : (rows : Laid) (a b : Known) → Firm a b NoWord → IsOf a rows → IsOf b rows
+of_kept rows a b f of = (ap (λ (k : Known). k.table) f.mends.is ∙ of.0, ap (λ (k : Known). k.view.rows) f.mends.is ∙ of.1, ap (λ (k : Known). k.view.passes) f.mends.is ∙ of.2)
+
+-- the rows of a rotation
+pub may_turn : (rows : Laid) (a b c : Known) (e : Edge) (side : Side) (raised : Grip) → IsOf a rows → IsMending a.view → a.view.debt ≡ no_debt → TakesEdge rows.rows a b e → Takes rows.rows b c e.parent.row e.child side raised → count_of e.child.stamp < last_count → MayTurn rows a c (turn_at e.parent e.side e.child side raised)
+may_turn rows a b c e side raised of m owes t u count =
+    let all : Firm a c NoWord = firm_on a b c t.firm u.firm in record {
+      of = of_kept rows a c all of;
+      rows_are = (t.low.0, t.low.1, u.low);
+      turn = record { upper = edge_kept b c e.parent e.child e.side u.firm t.edge; lower = u.edge; apart = λ z. u.apart (sym z) };
+      owes = all.debt ∙ owes;
+      count = count;
+      whole = all.mends.whole ∙ m.whole;
+      stage = ap (λ (k : Known). k.view.stage) all.mends.is;
+      some = t.some;
+      zero = u.firm.held 0 t.zero;
+      only = u.only;
+    }
+
+abbrev word : Known → Known → ℕ → Field → ℕ → Type 0
+word a b r f x = Becomes a b (read a.view r f x)
+
+-- those of an unlinking
+pub may_unlink : (rows : Laid) (a b c d f g : Known) (e : Edge) (side : Side) (child : Grip) → IsOf a rows → IsMending a.view → TakesEdge rows.rows a b e → Takes rows.rows b c e.parent.row e.child side child → word c d child.row Value 0 → word d f child.row Left 0 → word f g child.row Right 0 → g.view.debt.to_do ≡ Some child.key → MayUnlink rows g (edge_at e.child side child)
+may_unlink rows a b c d f g e side child of m t u value left right to_do =
+    let cd = read_looks c d child.row Value 0 value in
+    let df = read_looks d f child.row Left 0 left in
+    let fg = read_looks f g child.row Right 0 right in
+    let dg : Firm d g NoWord = firm_on d f g df.0 fg.0 in
+    let cg : Firm c g NoWord = firm_on c d g cd.0 dg in
+    let all : Firm a g NoWord = firm_on a b g t.firm (firm_on b c g u.firm cg) in
+    let edge : IsEdge g.view (edge_at e.child side child) = edge_kept c g e.child child side cg u.edge in
+    let held : Among child.row c.view.holds = u.edge.below.held in record {
+      of = of_kept rows a g all of;
+      rows_are = (t.low.1, u.low);
+      edge = edge;
+      routing = record {
+        no_value = dg.knows child.row Value 0 (λ z. z) (loaded_here c d child.row Value 0 held value);
+        one = inl (fg.0.knows child.row Left 0 (λ z. z) (loaded_here d f child.row Left 0 (cd.0.held child.row held) left), loaded_here f g child.row Right 0 (df.0.held child.row (cd.0.held child.row held)) right);
+      };
+      aims = inr (inr (inl (record { is_row = u.edge.is_row; key = child.key; is_key = edge.below.is_key; to_do = to_do })));
+      whole = all.mends.whole ∙ m.whole;
+    }

@@ -1,0 +1,15 @@
+use Rattle.std.proofs.Common.{ap, rules}
+use Rattle.row_tests.proofs.Entering.{entered_mending}
+use Rattle.row_tests.proofs.Freeing.{holds_turn}
+use Rattle.row_tests.proofs.stopped.stop_in_rotation.Goals as goal
+use Rattle.row_tests.specs.Stopping.{MayTurn}
+use Rattle.snap_steps.specs.Seen.{Known}
+
+pub take_turn-requires-clause-mending : goal.take_turn-requires-clause-mending
+take_turn-requires-clause-mending g c = entered_mending c.args.pass.now c.enter.new.pass c.requires.pass.idle c.enter.ensures
+
+pub end_write-requires-clause-turn : goal.end_write-requires-clause-turn
+end_write-requires-clause-turn g c =
+    let a = c.enter.new.pass in let b = c.take_turn.new.pass in let t = c.expect-turn.result in
+    let may : MayTurn c.args.rows.now a b t = search rules in
+    holds_turn c.args.rows.now a b c.rotate_slowly.new.pass t (ap (λ (k : Known). k.view.stage) c.enter.ensures.is) may c.rotate_slowly.ensures.turned

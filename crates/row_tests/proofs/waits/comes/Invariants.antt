@@ -1,0 +1,6 @@
+use Rattle.snap_steps.specs.Seen.{IsOf}
+use Rattle.row_tests.proofs.waits.comes.Given as goal
+
+-- the pass is of the table still
+abbrev pub invariant-loop-turn : goal.invariant-loop-turn
+invariant-loop-turn l = IsOf l.reader l.rows

@@ -1,0 +1,81 @@
+-- A write that stops in the midst of a change of the tree's shape: the rows that its pass has taken until then.
+use Rattle.std.specs.Prelude.{◌≡◌, ◌≢◌, ◌≤◌, ◌<◌, ℕ, false}
+use Rattle.snap_copy.specs.Mending.{Firm, NoWord}
+use Rattle.snap_rule.specs.declared.change.Doing.TheVariants.{Nothing}
+use Rattle.snap_stamp.specs.Stamps.{count_of, last_count}
+use Rattle.snap_rule.specs.Debt.{no_debt}
+use Rattle.snap_shape.specs.Grips.{AreWithin, IsEdge, IsTurning, IsWithin, edge_at}
+use Rattle.snap_shape.specs.declared.grip.Edge.{Edge}
+use Rattle.snap_shape.specs.declared.grip.Grip.{Grip}
+use Rattle.snap_shape.specs.declared.grip.Turn.{Turn}
+use Rattle.snap_stamp.specs.declared.side.Side.{Side}
+use Rattle.snap_steps.specs.Counting.{Among, times}
+use Rattle.snap_steps.specs.Seen.{IsOf, Known, Laid}
+use Rattle.snap_steps.specs.Steps.Unlinking.{AimsNear, IsRouting}
+use Rattle.snap_steps.specs.declared.view.Stage.TheVariants.{Writing}
+use Rattle.snap_steps.specs.declared.view.View.{View}
+
+-- no row is held but row 0 and these two
+abbrev pub HoldsOnly : View → ℕ → ℕ → Type 0
+HoldsOnly v upper lower = (r : ℕ) → r ≢ 0 → r ≢ upper → r ≢ lower → times r v.holds ≡ 0
+
+-- the child of a held row was found, and locked. It isn't the row above that
+pub record Takes (rows : ℕ) (old new : Known) (upper : ℕ) (parent : Grip) (d : Side) (child : Grip) : Type 0 where
+  pub firm : Firm old new NoWord
+  pub edge : IsEdge new.view (edge_at parent d child)
+  pub low : child.row ≤ rows
+  pub apart : child.row ≢ upper
+  pub only : (r : ℕ) → r ≢ 0 → r ≢ upper → r ≢ parent.row → r ≢ child.row → times r new.view.holds ≡ 0
+
+-- row 0, the root and its child on a side are held
+pub record TakesEdge (rows : ℕ) (old new : Known) (e : Edge) : Type 0 where
+  pub firm : Firm old new NoWord
+  pub edge : IsEdge new.view e
+  pub low : IsWithin rows e
+  pub some : e.parent.row ≢ 0
+  pub zero : Among 0 new.view.holds
+  pub only : HoldsOnly new.view e.parent.row e.child.row
+
+-- no row is held but row 0 and those of a rotation
+abbrev pub HoldsTurning : View → Turn → Type 0
+HoldsTurning v t = (r : ℕ) → r ≢ 0 → r ≢ t.parent.row → r ≢ t.row.row → r ≢ t.raised.row → times r v.holds ≡ 0
+
+-- the pass can begin a rotation, and holds row 0 too
+pub record MayTurn (rows : Laid) (old k : Known) (t : Turn) : Type 0 where
+  pub of : IsOf k rows
+  pub rows_are : AreWithin rows.rows t
+  pub turn : IsTurning k.view t
+  pub owes : k.view.debt ≡ no_debt
+  pub count : count_of t.row.stamp < last_count
+  pub whole : k.view.doing ≡ Nothing
+  pub stage : k.view.stage ≡ old.view.stage
+  pub some : t.parent.row ≢ 0
+  pub zero : Among 0 k.view.holds
+  pub only : HoldsTurning k.view t
+
+-- the pass is in a write without its entry, and in no change
+pub record IsWriting (rows : Laid) (k : Known) : Type 0 where
+  pub of : IsOf k rows
+  pub stage : k.view.stage ≡ Writing false false
+  pub whole : k.view.doing ≡ Nothing
+
+-- and it holds row 0 and the rows of a rotation, and no other
+pub record HoldsTurn (rows : Laid) (k : Known) (t : Turn) : Type 0 where
+  pub writing : IsWriting rows k
+  pub rows_are : AreWithin rows.rows t
+  pub some : (t.parent.row ≢ 0) × (t.row.row ≢ 0) × (t.raised.row ≢ 0)
+  pub apart : (t.parent.row ≢ t.row.row) × (t.parent.row ≢ t.raised.row) × (t.row.row ≢ t.raised.row)
+  pub zero : Among 0 k.view.holds
+  pub upper : Among t.parent.row k.view.holds
+  pub row : Among t.row.row k.view.holds
+  pub raised : Among t.raised.row k.view.holds
+  pub only : HoldsTurning k.view t
+
+-- the pass can begin to unlink a row without children
+pub record MayUnlink (rows : Laid) (k : Known) (e : Edge) : Type 0 where
+  pub of : IsOf k rows
+  pub rows_are : IsWithin rows.rows e
+  pub edge : IsEdge k.view e
+  pub routing : IsRouting k.view e.child.row 0
+  pub aims : AimsNear k.view e.parent.row e.child.row
+  pub whole : k.view.doing ≡ Nothing

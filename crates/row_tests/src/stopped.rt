@@ -1,0 +1,319 @@
+//! A write that stops in the midst of a rotation or of an unlinking, and the reads that then come by.
+ghost use Rattle.std.specs.Prelude.{◌≡◌, ◌<◌, ◌≤◌, ◌+◌, ◌^◌, MatchResult};
+ghost use Rattle.snap_rule.specs.Debt.{no_debt};
+ghost use Rattle.snap_rule.specs.declared.change.Doing.TheVariants.{Nothing};
+ghost use Rattle.row_tests.specs.Stopping.{HoldsTurn};
+ghost use Rattle.snap_shape.specs.Grips.{AreWithin, IsEdge, IsTurning, IsWithin};
+ghost use Rattle.snap_shape.specs.Shapes.{Rotates};
+ghost use Rattle.snap_stamp.specs.Stamps.{count_of, last_count};
+ghost use Rattle.snap_steps.specs.Seen.{IsOf};
+ghost use Rattle.snap_steps.specs.Steps.Unlinking.{AimsNear, IsRouting};
+ghost use Rattle.snap_table.specs.Calls.{IsIdle, Refuses, Replies};
+ghost use Rattle.snap_table.specs.Ready.{IsReadyTo};
+ghost use Rattle.snap_update.specs.Answers.{FitsWord};
+
+use crate::asserts::is;
+use crate::grips::{take_routing, take_turn};
+use crate::waits::{comes_free, comes_held};
+use snap_epoch::{enter, leave};
+use snap_locks::unlock;
+use snap_model::Call;
+use snap_repair::repair;
+use snap_search::{Busy, get, try_get};
+use snap_shape::{Edge, Turn, child_of, rotate};
+use snap_stamp::{Key, RowNo};
+use snap_steps::{
+    Full, Pass, Rows, clear_shrinking, link_lowered, link_parent, link_raised, mark_shrinking,
+    mark_unlinked, splice,
+};
+use snap_update::write;
+use std::alloc::{AllocError, Global};
+use std::process::Abort;
+use std::sync::Wait;
+use std::test::Fail;
+use std::thread;
+
+// What `try_get` answers of a key. Where it has an answer, `get` has the same.
+fn answer<R: Abort + Wait>(
+    rows: &Rows,
+    rt: &R,
+    alloc: Global,
+    pass: &mut Pass,
+    key: Key,
+) -> Result<String, AllocError>
+    requires { IsOf pass.old rows.now }
+    ensures { IsOf pass.new rows.now }
+{
+    let found = match try_get(rows, pass, key) {
+        Ok(found) => found,
+        Err(Busy { left, entered }) => return format!(in alloc; " busy {left} {entered}"),
+    };
+    is(rt, get(rows, rt, pass, key), found);
+    match found {
+        Some(value) => format!(in alloc; " {value}"),
+        None => format!(in alloc; " none"),
+    }
+}
+
+fn answers<R: Abort + Wait>(
+    rows: &Rows,
+    rt: &R,
+    alloc: Global,
+    pass: &mut Pass,
+) -> Result<String, AllocError>
+    requires { IsOf pass.old rows.now }
+    ensures { IsOf pass.new rows.now }
+{
+    let mut text = String::new(alloc);
+    for key in "5 10 20 30 35 40 50 60 65 70 75".split_whitespace() {
+        let key = key.parse::<u64>().unwrap_or(0);
+        let word = answer(rows, rt, alloc, pass, key)?;
+        text.push_str(word.as_str())?;
+    }
+    Ok(text)
+}
+
+// Reads of the seven keys of the table, and of others, answer so.
+fn reads_find<R: Abort + Wait>(rows: &Rows, rt: &R, alloc: Global, pass: &mut Pass, want: &str)
+    requires { IsOf pass.old rows.now }
+    ensures { IsOf pass.new rows.now }
+{
+    let found = answers(rows, rt, alloc, pass).expect(rt, "no memory");
+    assert_eq!(rt; found.as_str(), want);
+}
+
+const BELOW_IS_BUSY: &str = " none 10 20 30 none 40 busy 7 8 busy 7 8 busy 7 8 busy 7 8 busy 7 8";
+
+const LOWERED_IS_BUSY: &str = " none 10 20 30 none 40 busy 7 8 busy 7 8 busy 7 8 70 none";
+
+const ALL_ANSWER: &str = " none 10 20 30 none 40 50 60 none 70 none";
+
+const UNLINKED_IS_BUSY: &str = " none 10 20 busy 7 8 busy 7 8 40 50 60 none 70 none";
+
+const REMOVED_IS_NONE: &str = " none 10 20 none none 40 50 60 none 70 none";
+
+// A rotation, with reads before it, where its rows are held, and after each of its five steps.
+fn rotate_slowly<R: Abort + Wait>(
+    rows: &Rows,
+    rt: &R,
+    alloc: Global,
+    pass: &mut Pass,
+    reader: &mut Pass,
+    turn: &Turn,
+)
+    requires table { IsOf pass.old rows.now }
+    requires reader { IsOf reader.old rows.now }
+    requires rows { AreWithin rows.now.rows turn.now }
+    requires turn { IsTurning pass.old.view turn.now }
+    requires owes { pass.old.view.debt ≡ no_debt }
+    requires count { count_of turn.now.row.stamp < last_count }
+    requires whole { pass.old.view.doing ≡ Nothing }
+    ensures reader { IsOf reader.new rows.now }
+    ensures turned { Rotates pass.old pass.new turn.now }
+{
+    let (parent_side, side, across) = (turn.parent_side, turn.side, turn.side.other());
+    let (upper, lower, upward) = (turn.parent.row, turn.row.row, turn.raised.row);
+    let (key, stamp) = (turn.row.key, turn.row.stamp);
+    let raised = turn.raised;
+    let middle = child_of(rows, pass, &raised, across);
+    reads_find(rows, rt, alloc, reader, ALL_ANSWER);
+    mark_shrinking(
+        rows,
+        pass,
+        upper,
+        parent_side,
+        lower,
+        side,
+        upward,
+        stamp,
+        key,
+    );
+    reads_find(rows, rt, alloc, reader, BELOW_IS_BUSY);
+    link_lowered(rows, pass, upper, parent_side, lower, side, upward, middle);
+    reads_find(rows, rt, alloc, reader, BELOW_IS_BUSY);
+    link_raised(rows, pass, upper, parent_side, lower, side, upward);
+    reads_find(rows, rt, alloc, reader, BELOW_IS_BUSY);
+    link_parent(rows, pass, upper, parent_side, lower, side, upward, key);
+    reads_find(rows, rt, alloc, reader, LOWERED_IS_BUSY);
+    clear_shrinking(rows, pass, lower, stamp + 2);
+    reads_find(rows, rt, alloc, reader, ALL_ANSWER);
+}
+
+// Frees what is held after a rotation, the lowered row first, which comes free; repairs, and ends the write.
+fn end_write<R: Wait + Abort>(rows: &Rows, rt: &R, pass: &mut Pass, reader: &mut Pass, turn: &Turn)
+    requires turn { HoldsTurn rows.now pass.old turn.now }
+    requires reader { IsOf reader.old rows.now }
+    ensures { IsOf reader.new rows.now }
+{
+    let lowered = turn.row.row;
+    unlock(rows, pass, lowered);
+    is(rt, comes_free(rows, reader, lowered), true);
+    unlock(rows, pass, turn.raised.row);
+    unlock(rows, pass, turn.parent.row);
+    unlock(rows, pass, RowNo::HOLDER);
+    let _ = repair(rows, rt, pass);
+    leave(rows, pass, false);
+}
+
+// An unlinking of a row without children, with reads after each of its two steps.
+fn unlink_slowly<R: Abort + Wait>(
+    rows: &Rows,
+    rt: &R,
+    alloc: Global,
+    pass: &mut Pass,
+    reader: &mut Pass,
+    edge: &Edge,
+)
+    requires table { IsOf pass.old rows.now }
+    requires reader { IsOf reader.old rows.now }
+    requires rows { IsWithin rows.now.rows edge.now }
+    requires edge { IsEdge pass.old.view edge.now }
+    requires routing { IsRouting pass.old.view edge.now.child.row 0 }
+    requires aims { AimsNear pass.old.view edge.now.parent.row edge.now.child.row }
+    requires whole { pass.old.view.doing ≡ Nothing }
+{
+    let (side, upper, upper_key) = (edge.side, edge.parent.row, edge.parent.key);
+    let (row, stamp) = (edge.child.row, edge.child.stamp);
+    let none = RowNo::HOLDER;
+    mark_unlinked(rows, pass, upper, side, row, none, stamp, upper_key);
+    reads_find(rows, rt, alloc, reader, UNLINKED_IS_BUSY);
+    splice(rows, pass, upper, side, row, none);
+    reads_find(rows, rt, alloc, reader, REMOVED_IS_NONE);
+}
+
+// A put, as the table makes it.
+fn put<R: Wait>(rows: &Rows, rt: &R, pass: &mut Pass, call: &Call) -> Result<Option<u64>, Full>
+    requires table { IsOf pass.old rows.now }
+    requires idle { IsIdle pass.old.view }
+    requires uses { pass.old.view.uses < 2 ^ 48 }
+    requires value { FitsWord call.now }
+    ensures { MatchResult result (λ reply. Replies pass.old pass.new call.now reply) (λ f. (f.rows ≡ rows.now.rows) × Refuses rows.now.rows pass.old pass.new call.now) }
+{
+    enter(rows, rt, pass);
+    match write(rows, rt, pass, call) {
+        Ok(reply) => {
+            let _ = repair(rows, rt, pass);
+            leave(rows, pass, true);
+            Ok(reply)
+        }
+        Err(full) => {
+            leave(rows, pass, false);
+            Err(full)
+        }
+    }
+}
+
+// Puts at the keys 10 to 70, each of itself.
+fn put_seven<R: Wait>(rows: &Rows, rt: &R, pass: &mut Pass) -> bool
+    requires { IsReadyTo rows.now 0 0 pass.old }
+    ensures { IsReadyTo rows.now 0 7 pass.new }
+{
+    let mut said = true;
+    for turn in 0..7u64 {
+        let key = 10 * turn + 10;
+        said = put(rows, rt, pass, &Call::Put { key, value: key }) == Ok(None) && said;
+    }
+    said
+}
+
+fn stop_in_rotation<R: Abort + Wait>(
+    rows: &Rows,
+    rt: &R,
+    alloc: Global,
+    pass: &mut Pass,
+    reader: &mut Pass,
+)
+    requires pass { IsReadyTo rows.now 0 7 pass.old }
+    requires reader { IsOf reader.old rows.now }
+{
+    enter(rows, rt, pass);
+    let turn = take_turn(rows, rt, pass, reader, 70).expect(rt, "no rotation");
+    rotate_slowly(rows, rt, alloc, pass, reader, &turn);
+    end_write(rows, rt, pass, reader, &turn);
+    reads_find(rows, rt, alloc, reader, ALL_ANSWER);
+}
+
+// Turns rows of which another write has yet to repair one, which waits for the row above meanwhile.
+fn turn_beside<R: Abort + Wait>(rows: &Rows, rt: &R, mut pass: Pass, mut reader: Pass)
+    requires pass { IsReadyTo rows.now 0 7 pass }
+    requires reader { IsOf reader rows.now }
+{
+    enter(rows, rt, &mut pass);
+    let turn = take_turn(rows, rt, &mut pass, &mut reader, 80).expect(rt, "no rotation");
+    let key = turn.row.key;
+    let _ = rotate(rows, &mut pass, &turn, key);
+    end_write(rows, rt, &mut pass, &mut reader, &turn);
+}
+
+// Puts 80 once the row of 60, which was the sixth to be drawn, is held.
+fn put_eighty<R: Abort + Wait>(
+    rows: &Rows,
+    rt: &R,
+    mut pass: Pass,
+    mut reader: Pass,
+) -> Result<Option<u64>, Full>
+    requires rows { 6 ≤ rows.now.rows }
+    requires pass { IsReadyTo rows.now 1 0 pass }
+    requires reader { IsOf reader rows.now }
+{
+    is(rt, comes_held(rows, &mut reader, RowNo::of(6)), true);
+    put(rows, rt, &mut pass, &Call::Put { key: 80, value: 80 })
+}
+
+fn stop_in_unlinking<R: Abort + Wait>(
+    rows: &Rows,
+    rt: &R,
+    alloc: Global,
+    pass: &mut Pass,
+    reader: &mut Pass,
+)
+    requires pass { IsReadyTo rows.now 0 7 pass.old }
+    requires reader { IsOf reader.old rows.now }
+{
+    enter(rows, rt, pass);
+    let call = Call::Remove { key: 30 };
+    let reply = write(rows, rt, pass, &call).expect(rt, "no row is left");
+    is(rt, reply, Some(30));
+    reads_find(rows, rt, alloc, reader, REMOVED_IS_NONE);
+    let edge = take_routing(rows, rt, pass).expect(rt, "no unlinking");
+    unlink_slowly(rows, rt, alloc, pass, reader, &edge);
+}
+
+#[test]
+fn reads_meet_a_stopped_rotation(rt: HostRuntime) -> Result<(), Fail> {
+    let (rows, mut passes) = Rows::open(rt.alloc(), 7, 2)?;
+    let mut q = passes.pop().expect(&rt, "no second pass");
+    let mut p = passes.pop().expect(&rt, "no first pass");
+    is(&rt, put_seven(&rows, &rt, &mut p), true);
+    stop_in_rotation(&rows, &rt, rt.alloc(), &mut p, &mut q);
+    Ok(())
+}
+
+// The put of 80 unsettles 70, and waits then for 60, which the other write holds until 70 stands above it. It must not
+// keep 60 while it waits for 70: the other write waits for 60 to come free before it frees 70.
+#[test]
+fn a_repair_keeps_no_row_that_has_lost_its_child(rt: HostRuntime) -> Result<(), Fail> {
+    let (rows, mut passes) = Rows::open(rt.alloc(), 8, 4)?;
+    let s = passes.pop().expect(&rt, "no fourth pass");
+    let r = passes.pop().expect(&rt, "no third pass");
+    let q = passes.pop().expect(&rt, "no second pass");
+    let mut p = passes.pop().expect(&rt, "no first pass");
+    is(&rt, put_seven(&rows, &rt, &mut p), true);
+    let (_, reply) = thread::join(
+        &rt,
+        || turn_beside(&rows, &rt, p, r),
+        || put_eighty(&rows, &rt, q, s),
+    );
+    is(&rt, reply, Ok(None));
+    Ok(())
+}
+
+#[test]
+fn reads_meet_a_stopped_unlinking(rt: HostRuntime) -> Result<(), Fail> {
+    let (rows, mut passes) = Rows::open(rt.alloc(), 7, 2)?;
+    let mut q = passes.pop().expect(&rt, "no second pass");
+    let mut p = passes.pop().expect(&rt, "no first pass");
+    is(&rt, put_seven(&rows, &rt, &mut p), true);
+    stop_in_unlinking(&rows, &rt, rt.alloc(), &mut p, &mut q);
+    Ok(())
+}

@@ -1,6 +1,0 @@
-use Rattle.std.proofs.Common.{rules}
-use Rattle.table_tests.proofs.Taking.{may_turn}
-use Rattle.table_tests.proofs.grips.take_turn.Goals as goal
-
-pub returns : goal.returns
-returns g c = may_turn c.args.rows.now c.args.pass.now c.take_edge.new.pass c.take_child.new.pass c.in_ok-edge.edge _ c.in_ok-raised.raised c.requires.table c.requires.mending c.requires.owes c.in_ok-edge.ensures c.in_ok-raised.ensures (search rules)
