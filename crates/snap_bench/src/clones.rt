@@ -77,6 +77,38 @@ pub fn count_cost<R: Wait + Clock>(
     Ok(CountCost { pairs, nanos })
 }
 
+/// How many rows a reader of a clone passes on its ways down.
+#[derive(Drop)]
+pub struct Ways {
+    /// On the longest of the ways to the table's keys.
+    pub greatest: u32,
+    /// On the mean of them, in tenths.
+    pub tenths: u64,
+}
+
+/// Goes down a clone of the size to each of its keys.
+pub fn ways_of<R: Wait>(rt: &R, alloc: Global, size: u32) -> Result<Ways, Fault>
+    requires { size ≤ 1_000_000 }
+{
+    let (table, passes) = open_table(alloc, size + 48, 1)?;
+    let mut workers = workers_of(alloc, &table, passes)?;
+    let Some(mut worker) = workers.pop() else {
+        return Err(Fault::Out);
+    };
+    fill(rt, &mut worker, size, Order::AsIfByLot)?;
+    let mut view = worker.clone_view(rt)?;
+    let mut greatest: u32 = 0;
+    let mut sum: u64 = 0;
+    for number in 0..size {
+        let levels = view.levels_to(spread(number));
+        greatest = greatest.max(levels);
+        sum = sum.saturating_add(levels as u64);
+    }
+    view.release();
+    let tenths = sum.saturating_mul(10) / size.max(1) as u64;
+    Ok(Ways { greatest, tenths })
+}
+
 fn time_clones<R: Wait + Clock>(rt: &R, worker: &mut OfTable<'_>) -> Result<u64, Fault> {
     let start = Instant::now(rt)?;
     for _ in 0..CLONES {

@@ -6,10 +6,12 @@ use std::io;
 
 #[derive(Debug, Drop)]
 pub enum Fault {
-    /// The word isn't a number.
+    /// The words name nothing that can be timed.
     Usage,
     /// A table has no row left, or a pass no use.
     Out,
+    /// Pairs are missing.
+    Lost,
     /// Want of memory.
     Memory,
     /// The clock, the words or the output.

@@ -5,16 +5,23 @@
 ghost use Rattle.std.specs.Prelude.{◌≤◌};
 
 mod balance;
+mod cells;
 mod clones;
 mod contest;
+mod draws;
 mod fault;
+mod growth;
 mod keys;
+mod mixes;
 mod rounds;
+mod watch;
 mod workers;
 
 use balance::{Balance, balance_of};
-use clones::{CloneCost, CountCost, clone_cost, count_cost, scan_rate};
+use cells::tell_cell;
+use clones::{CloneCost, CountCost, Ways, clone_cost, count_cost, scan_rate, ways_of};
 use fault::Fault;
+use growth::tell_growth;
 use keys::Order;
 use rounds::{Rates, of_mutex, of_rwlock, of_table};
 use snap_view::Settled;
@@ -53,6 +60,8 @@ fn main(rt: HostRuntime) -> Result<(), Fault> {
         Some(word) if word.as_str() == "maps" => time_maps(&rt, rt.alloc()),
         Some(word) if word.as_str() == "clones" => time_clones(&rt, rt.alloc()),
         Some(word) if word.as_str() == "balance" => time_balance(&rt, rt.alloc()),
+        Some(word) if word.as_str() == "growth" => tell_growth(&rt, rt.alloc(), &SIZES),
+        Some(word) if word.as_str() == "cell" => tell_cell(&rt, rt.alloc(), words),
         Some(_) => Err(Fault::Usage),
     }
 }
@@ -102,6 +111,11 @@ fn time_clones<R: Print + Threads + Wait + Clock + Sync>(
     for wanted in COUNTS {
         let CountCost { pairs, nanos } = count_cost(rt, alloc, 1_000_000, wanted)?;
         println!(rt; "{pairs}, {nanos}")?;
+    }
+    println!(rt; "pairs, rows on a way down a clone to one of its keys: the most, the mean")?;
+    for size in SIZES {
+        let Ways { greatest, tenths } = ways_of(rt, alloc, size)?;
+        println!(rt; "{size}, {greatest}, {}.{}", tenths / 10, tenths % 10)?;
     }
     println!(rt; "writers, pairs of a clone of 100000 a second")?;
     for writers in WRITERS {
