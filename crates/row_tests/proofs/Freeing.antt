@@ -1,13 +1,14 @@
--- The rows of a rotation are freed one after another.
-use Rattle.std.proofs.Common.{◌≡◌, ◌≢◌, ℕ, ◌<◌, List, [], ◌∷◌, false, refl, sym, ap, ◌∙◌, arith}
+-- The rows of a change are freed one after another.
+use Rattle.std.proofs.Common.{◌≡◌, ◌≢◌, ℕ, List, [], ◌∷◌, Bool, false, true, refl, ap, ◌∙◌, arith}
 use mathlib.Core.Logic.{dite}
 use native.Mathlib.Decide.{ℕ_discrete}
-use Rattle.row_tests.specs.Stopping.{HoldsTurn, IsWriting, MayTurn}
-use Rattle.snap_shape.specs.Shapes.{Rotates}
+use Rattle.row_tests.specs.Stopping.{HasTaken, HoldsRoot, HoldsTurn, IsWriting, MayUnlinkRoot}
+use Rattle.snap_shape.specs.Shapes.{Keeps}
+use Rattle.snap_shape.specs.declared.grip.Edge.{Edge}
 use Rattle.snap_shape.specs.declared.grip.Turn.{Turn}
 use Rattle.snap_steps.proofs.Totals.{one_same, removed_other, removed_same}
 use Rattle.snap_steps.specs.Counting.{Among, removed, times}
-use Rattle.snap_steps.specs.Seen.{Becomes, Known, Laid}
+use Rattle.snap_steps.specs.Seen.{Becomes, IsOf, Known, Laid}
 use Rattle.snap_steps.specs.Steps.Locks.{unlocked}
 use Rattle.snap_steps.specs.declared.view.Stage.TheVariants.{Writing}
 
@@ -27,35 +28,53 @@ all_freed l a b c only = none_left (removed 0 (removed a (removed b (removed c l
 pub held_still : (a b : Known) (r s : ℕ) → Becomes a b (unlocked a.view r) → s ≢ r → Among s a.view.holds → Among s b.view.holds
 held_still a b r s e ne h = omega (arith, h, ap (λ (k : Known). times s k.view.holds) e, removed_other r s a.view.holds ne)
 
-pub writing_still : (rows : Laid) (a b : Known) (r : ℕ) → Becomes a b (unlocked a.view r) → IsWriting rows a → IsWriting rows b
-writing_still rows a b r e w = record {
+pub writing_still : (rows : Laid) (a b : Known) (r : ℕ) (made : Bool) → Becomes a b (unlocked a.view r) → IsWriting rows a made → IsWriting rows b made
+writing_still rows a b r made e w = record {
   of = (ap (λ (k : Known). k.table) e ∙ w.of.0, ap (λ (k : Known). k.view.rows) e ∙ w.of.1, ap (λ (k : Known). k.view.passes) e ∙ w.of.2);
   stage = ap (λ (k : Known). k.view.stage) e ∙ w.stage;
   whole = ap (λ (k : Known). k.view.doing) e ∙ w.whole;
 }
 
 -- once row 0 is freed, none is held
-pub none_held : (rows : Laid) (a b d e f : Known) (t : Turn) → HoldsTurn rows a t → Becomes a b (unlocked a.view t.row.row) → Becomes b d (unlocked b.view t.raised.row) → Becomes d e (unlocked d.view t.parent.row) → Becomes e f (unlocked e.view 0) → f.view.holds ≡ []
-none_held rows a b d e f t h first second third last =
+pub none_held : (rows : Laid) (a b d e f : Known) (made : Bool) (t : Turn) → HoldsTurn rows a made t → Becomes a b (unlocked a.view t.row.row) → Becomes b d (unlocked b.view t.raised.row) → Becomes d e (unlocked d.view t.parent.row) → Becomes e f (unlocked e.view 0) → f.view.holds ≡ []
+none_held rows a b d e f made t h first second third last =
     ap (λ (k : Known). k.view.holds) last
     ∙ ap (removed 0) (ap (λ (k : Known). k.view.holds) third ∙ ap (removed t.parent.row) (ap (λ (k : Known). k.view.holds) second ∙ ap (removed t.raised.row) (ap (λ (k : Known). k.view.holds) first)))
     ∙ all_freed a.view.holds t.parent.row t.raised.row t.row.row (λ r nz n1 n2 n3. h.only r nz n1 n3 n2)
 
--- a rotation leaves what is held
-pub holds_turn : (rows : Laid) (a b c : Known) (t : Turn) → a.view.stage ≡ Writing false false → MayTurn rows a b t → Rotates b c t → HoldsTurn rows c t
-holds_turn rows a b c t stage m r =
-    let e = r.keeps.is in record {
-      writing = record {
-        of = (ap (λ (k : Known). k.table) e ∙ m.of.0, ap (λ (k : Known). k.view.rows) e ∙ m.of.1, ap (λ (k : Known). k.view.passes) e ∙ m.of.2);
-        stage = ap (λ (k : Known). k.view.stage) e ∙ m.stage ∙ stage;
-        whole = r.keeps.whole;
-      };
-      rows_are = m.rows_are;
-      some = (m.some, m.turn.upper.is_row, m.turn.lower.is_row);
-      apart = (m.turn.upper.apart, m.turn.apart, m.turn.lower.apart);
-      zero = omega (arith, m.zero, ap (λ (k : Known). times 0 k.view.holds) e);
-      upper = omega (arith, m.turn.upper.above.held, ap (λ (k : Known). times t.parent.row k.view.holds) e);
-      row = omega (arith, m.turn.upper.below.held, ap (λ (k : Known). times t.row.row k.view.holds) e);
-      raised = omega (arith, m.turn.lower.below.held, ap (λ (k : Known). times t.raised.row k.view.holds) e);
-      only = λ q nz n1 n2 n3. ap (λ (k : Known). times q k.view.holds) e ∙ m.only q nz n1 n2 n3;
-    }
+pub none_held_below : (rows : Laid) (a b c : Known) (row : ℕ) → HoldsRoot rows a row → Becomes a b (unlocked a.view row) → Becomes b c (unlocked b.view 0) → c.view.holds ≡ []
+none_held_below rows a b c row h first last =
+    ap (λ (k : Known). k.view.holds) last
+    ∙ ap (removed 0) (ap (λ (k : Known). k.view.holds) first)
+    ∙ none_left (removed 0 (removed row a.view.holds)) (λ r. gone r 0 (removed row a.view.holds) (λ nz. gone r row a.view.holds (λ nr. h.only r nz nz nr)))
+
+-- a change of the tree's shape leaves what is held
+writes_on : (rows : Laid) (a b c : Known) (made : Bool) (x y z : ℕ) → a.view.stage ≡ Writing made false → IsOf b rows → b.view.stage ≡ a.view.stage → Keeps b c x y z → IsWriting rows c made
+writes_on rows a b c made x y z stage of same k = record {
+  of = (ap (λ (k : Known). k.table) k.is ∙ of.0, ap (λ (k : Known). k.view.rows) k.is ∙ of.1, ap (λ (k : Known). k.view.passes) k.is ∙ of.2);
+  stage = ap (λ (k : Known). k.view.stage) k.is ∙ same ∙ stage;
+  whole = k.whole;
+}
+
+pub holds_turn : (rows : Laid) (a b c : Known) (made : Bool) (t : Turn) (x y z : ℕ) → a.view.stage ≡ Writing made false → HasTaken rows a b t → Keeps b c x y z → HoldsTurn rows c made t
+holds_turn rows a b c made t x y z stage m k = record {
+  writing = writes_on rows a b c made x y z stage m.of m.stage k;
+  rows_are = m.rows_are;
+  some = (m.some, m.turn.upper.is_row, m.turn.lower.is_row);
+  apart = (m.turn.upper.apart, m.turn.apart, m.turn.lower.apart);
+  zero = omega (arith, m.zero, ap (λ (k : Known). times 0 k.view.holds) k.is);
+  upper = omega (arith, m.turn.upper.above.held, ap (λ (k : Known). times t.parent.row k.view.holds) k.is);
+  row = omega (arith, m.turn.upper.below.held, ap (λ (k : Known). times t.row.row k.view.holds) k.is);
+  raised = omega (arith, m.turn.lower.below.held, ap (λ (k : Known). times t.raised.row k.view.holds) k.is);
+  only = λ q nz n1 n2 n3. ap (λ (k : Known). times q k.view.holds) k.is ∙ m.only q nz n1 n2 n3;
+}
+
+pub holds_root : (rows : Laid) (a b c : Known) (e : Edge) (x y z : ℕ) → a.view.stage ≡ Writing true false → MayUnlinkRoot rows a b e → Keeps b c x y z → HoldsRoot rows c e.child.row
+holds_root rows a b c e x y z stage m k = record {
+  writing = writes_on rows a b c true x y z stage m.of m.stage k;
+  low = m.rows_are.1;
+  some = m.edge.is_row;
+  zero = omega (arith, m.zero, ap (λ (k : Known). times 0 k.view.holds) k.is);
+  held = omega (arith, m.edge.below.held, ap (λ (k : Known). times e.child.row k.view.holds) k.is);
+  only = λ q nz n1 n2. ap (λ (k : Known). times q k.view.holds) k.is ∙ m.only q nz n1 n2;
+}

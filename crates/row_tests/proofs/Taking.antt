@@ -1,14 +1,15 @@
 -- Rows that a pass takes one below the other.
-use Rattle.std.proofs.Common.{◌≡◌, ◌≢◌, inl, inr, refl, Some, ℕ, ◌<◌, ◌≤◌, List, [], ◌∷◌, sym, ap, ◌∙◌, subst, arith}
+use Rattle.std.proofs.Common.{◌≡◌, ◌≢◌, inl, refl, Some, ℕ, ◌<◌, ◌≤◌, List, [], ◌∷◌, sym, ap, ◌∙◌, subst, arith}
 use Rattle.snap_copy.specs.Mending.{Firm, Looks, NoWord}
 use Rattle.snap_locks.specs.Held.{HasLocked}
-use Rattle.snap_repair.proofs.Mending.{firm_on, grip_firm, locked_firm, read_looks}
+use Rattle.snap_repair.proofs.Mending.{firm_on, grip_firm, locked_firm, looks_on, read_looks}
 use Rattle.snap_repair.specs.Answers.{IsMending}
 use Rattle.snap_shape.specs.Grips.{HasGrip, IsEdge, Leads, edge_at, turn_at}
 use Rattle.snap_shape.specs.declared.grip.Edge.{Edge}
 use Rattle.snap_rule.specs.Debt.{no_debt}
 use Rattle.snap_stamp.specs.Stamps.{count_of, last_count}
 use Rattle.snap_shape.specs.declared.grip.Grip.{Grip}
+use Rattle.snap_shape.specs.declared.grip.Turn.{Turn}
 use Rattle.snap_shape.proofs.Touching.{loaded_here}
 use Rattle.snap_stamp.specs.declared.layout.Field.{Field}
 use Rattle.snap_stamp.specs.declared.layout.Field.TheVariants.{Left, Right, Value}
@@ -20,7 +21,7 @@ use Rattle.snap_steps.specs.Facts.{IsKnown}
 use Rattle.snap_steps.specs.Seen.{Becomes, IsOf, Known, Laid}
 use Rattle.snap_steps.specs.States.{link_field}
 use Rattle.snap_steps.specs.Steps.Fields.{read}
-use Rattle.row_tests.specs.Stopping.{HoldsOnly, MayTurn, MayUnlink, Takes, TakesEdge}
+use Rattle.row_tests.specs.Stopping.{HasTaken, HoldsOnly, IsGone, MayTurn, MayUnlink, MayUnlinkRoot, Takes, TakesEdge}
 
 pub grip_kept : (a b : Known) (g : Grip) → Firm a b NoWord → HasGrip a.view g → HasGrip b.view g
 grip_kept a b g f h = grip_firm a b NoWord g f (λ z. z) (λ z. z) (λ z. z) h
@@ -88,15 +89,13 @@ takes_edge rows a b c d e top root row up side l s t u = record {
 pub of_kept : (rows : Laid) (a b : Known) → Firm a b NoWord → IsOf a rows → IsOf b rows
 of_kept rows a b f of = (ap (λ (k : Known). k.table) f.mends.is ∙ of.0, ap (λ (k : Known). k.view.rows) f.mends.is ∙ of.1, ap (λ (k : Known). k.view.passes) f.mends.is ∙ of.2)
 
--- the rows of a rotation
-pub may_turn : (rows : Laid) (a b c : Known) (e : Edge) (side : Side) (raised : Grip) → IsOf a rows → IsMending a.view → a.view.debt ≡ no_debt → TakesEdge rows.rows a b e → Takes rows.rows b c e.parent.row e.child side raised → count_of e.child.stamp < last_count → MayTurn rows a c (turn_at e.parent e.side e.child side raised)
-may_turn rows a b c e side raised of m owes t u count =
+-- three rows are taken, each below the other
+pub has_taken : (rows : Laid) (a b c : Known) (e : Edge) (side : Side) (raised : Grip) → IsOf a rows → IsMending a.view → TakesEdge rows.rows a b e → Takes rows.rows b c e.parent.row e.child side raised → HasTaken rows a c (turn_at e.parent e.side e.child side raised)
+has_taken rows a b c e side raised of m t u =
     let all : Firm a c NoWord = firm_on a b c t.firm u.firm in record {
       of = of_kept rows a c all of;
       rows_are = (t.low.0, t.low.1, u.low);
       turn = record { upper = edge_kept b c e.parent e.child e.side u.firm t.edge; lower = u.edge; apart = λ z. u.apart (sym z) };
-      owes = all.debt ∙ owes;
-      count = count;
       whole = all.mends.whole ∙ m.whole;
       stage = ap (λ (k : Known). k.view.stage) all.mends.is;
       some = t.some;
@@ -104,27 +103,60 @@ may_turn rows a b c e side raised of m owes t u count =
       only = u.only;
     }
 
+taken_on : (rows : Laid) (a b c : Known) (t : Turn) → HasTaken rows a b t → Looks b c → HasTaken rows a c t
+taken_on rows a b c t h s = record {
+  of = of_kept rows b c s.0 h.of;
+  rows_are = h.rows_are;
+  turn = record { upper = edge_kept b c t.parent t.row t.parent_side s.0 h.turn.upper; lower = edge_kept b c t.row t.raised t.side s.0 h.turn.lower; apart = h.turn.apart };
+  whole = s.0.mends.whole ∙ h.whole;
+  stage = ap (λ (k : Known). k.view.stage) s.0.mends.is ∙ h.stage;
+  some = h.some;
+  zero = s.0.held 0 h.zero;
+  only = λ r nz n1 n2 n3. ap (times r) s.1 ∙ h.only r nz n1 n2 n3;
+}
+
+-- the rows of a rotation
+pub may_turn : (rows : Laid) (a b c : Known) (e : Edge) (side : Side) (raised : Grip) → IsOf a rows → IsMending a.view → a.view.debt ≡ no_debt → TakesEdge rows.rows a b e → Takes rows.rows b c e.parent.row e.child side raised → count_of e.child.stamp < last_count → MayTurn rows a c (turn_at e.parent e.side e.child side raised)
+may_turn rows a b c e side raised of m owes t u count = record { taken = has_taken rows a b c e side raised of m t u; owes = (firm_on a b c t.firm u.firm).debt ∙ owes; count = count }
+
 abbrev word : Known → Known → ℕ → Field → ℕ → Type 0
 word a b r f x = Becomes a b (read a.view r f x)
 
--- those of an unlinking
-pub may_unlink : (rows : Laid) (a b c d f g : Known) (e : Edge) (side : Side) (child : Grip) → IsOf a rows → IsMending a.view → TakesEdge rows.rows a b e → Takes rows.rows b c e.parent.row e.child side child → word c d child.row Value 0 → word d f child.row Left 0 → word f g child.row Right 0 → g.view.debt.to_do ≡ Some child.key → MayUnlink rows g (edge_at e.child side child)
-may_unlink rows a b c d f g e side child of m t u value left right to_do =
-    let cd = read_looks c d child.row Value 0 value in
-    let df = read_looks d f child.row Left 0 left in
-    let fg = read_looks f g child.row Right 0 right in
-    let dg : Firm d g NoWord = firm_on d f g df.0 fg.0 in
-    let cg : Firm c g NoWord = firm_on c d g cd.0 dg in
-    let all : Firm a g NoWord = firm_on a b g t.firm (firm_on b c g u.firm cg) in
-    let edge : IsEdge g.view (edge_at e.child side child) = edge_kept c g e.child child side cg u.edge in
-    let held : Among child.row c.view.holds = u.edge.below.held in record {
-      of = of_kept rows a g all of;
-      rows_are = (t.low.1, u.low);
-      edge = edge;
+-- the words of a row are loaded
+pub words_look : (a b c d : Known) (r x y z : ℕ) → word a b r Value x → word b c r Left y → word c d r Right z → Looks a d
+words_look a b c d r x y z value left right = looks_on a b d (read_looks a b r Value x value) (looks_on b c d (read_looks b c r Left y left) (read_looks c d r Right z right))
+
+-- they tell that it may be unlinked
+pub tells_gone : (a b c d : Known) (row : Grip) → HasGrip a.view row → row.row ≢ 0 → word a b row.row Value 0 → word b c row.row Left 0 → word c d row.row Right 0 → d.view.debt.to_do ≡ Some row.key → IsGone d.view row.row
+tells_gone a b c d row grip some value left right to_do =
+    let ab = read_looks a b row.row Value 0 value in
+    let bc = read_looks b c row.row Left 0 left in
+    let cd = read_looks c d row.row Right 0 right in
+    let bd : Firm b d NoWord = firm_on b c d bc.0 cd.0 in
+    let held : Among row.row b.view.holds = ab.0.held row.row grip.held in record {
       routing = record {
-        no_value = dg.knows child.row Value 0 (λ z. z) (loaded_here c d child.row Value 0 held value);
-        one = inl (fg.0.knows child.row Left 0 (λ z. z) (loaded_here d f child.row Left 0 (cd.0.held child.row held) left), loaded_here f g child.row Right 0 (df.0.held child.row (cd.0.held child.row held)) right);
+        no_value = bd.knows row.row Value 0 (λ z. z) (loaded_here a b row.row Value 0 grip.held value);
+        one = inl (cd.0.knows row.row Left 0 (λ z. z) (loaded_here b c row.row Left 0 held left), loaded_here c d row.row Right 0 (bc.0.held row.row held) right);
       };
-      aims = inr (inr (inl (record { is_row = u.edge.is_row; key = child.key; is_key = edge.below.is_key; to_do = to_do })));
+      aims = record { is_row = some; key = row.key; is_key = (grip_kept a d row (firm_on a b d ab.0 bd) grip).is_key; to_do = to_do };
+    }
+
+-- the rows of an unlinking
+pub may_unlink : (rows : Laid) (a b c d : Known) (e : Edge) (side : Side) (raised : Grip) → IsOf a rows → IsMending a.view → TakesEdge rows.rows a b e → Takes rows.rows b c e.parent.row e.child side raised → Looks c d → IsGone d.view raised.row → MayUnlink rows a d (turn_at e.parent e.side e.child side raised)
+may_unlink rows a b c d e side raised of m t u s gone = record { taken = taken_on rows a c d (turn_at e.parent e.side e.child side raised) (has_taken rows a b c e side raised of m t u) s; gone = gone }
+
+-- row 0 and the root
+pub may_unlink_root : (rows : Laid) (a b c d f : Known) (top root : Grip) (side : Side) → IsOf a rows → IsMending a.view → HasLocked a b 0 → Looks b c → top.row ≡ 0 → Takes rows.rows c d 0 top side root → Looks d f → IsGone f.view root.row → MayUnlinkRoot rows a f (edge_at top side root)
+may_unlink_root rows a b c d f top root side of m l s is t w gone =
+    let lock = locked_firm a b 0 l in
+    let on : Firm b f NoWord = firm_on b c f s.0 (firm_on c d f t.firm w.0) in
+    let all : Firm a f NoWord = firm_on a b f lock.0 on in record {
+      of = of_kept rows a f all of;
+      rows_are = (omega (arith, is), t.low);
+      edge = edge_kept d f top root side w.0 t.edge;
+      gone = gone;
       whole = all.mends.whole ∙ m.whole;
+      stage = ap (λ (k : Known). k.view.stage) all.mends.is;
+      zero = on.held 0 (omega (arith, ap (times 0) lock.1, one_same 0 0 refl));
+      only = λ r nz n1 n2. ap (times r) w.1 ∙ root_only rows.rows c d top root side is t r nz n1 n2;
     }

@@ -1,5 +1,5 @@
 -- A write that stops in the midst of a change of the tree's shape: the rows that its pass has taken until then.
-use Rattle.std.specs.Prelude.{◌≡◌, ◌≢◌, ◌≤◌, ◌<◌, ℕ, false}
+use Rattle.std.specs.Prelude.{◌≡◌, ◌≢◌, ◌≤◌, ◌<◌, ℕ, Bool, false, true}
 use Rattle.snap_copy.specs.Mending.{Firm, NoWord}
 use Rattle.snap_rule.specs.declared.change.Doing.TheVariants.{Nothing}
 use Rattle.snap_stamp.specs.Stamps.{count_of, last_count}
@@ -11,7 +11,8 @@ use Rattle.snap_shape.specs.declared.grip.Turn.{Turn}
 use Rattle.snap_stamp.specs.declared.side.Side.{Side}
 use Rattle.snap_steps.specs.Counting.{Among, times}
 use Rattle.snap_steps.specs.Seen.{IsOf, Known, Laid}
-use Rattle.snap_steps.specs.Steps.Unlinking.{AimsNear, IsRouting}
+use Rattle.snap_steps.specs.Steps.Changes.{AimsAt}
+use Rattle.snap_steps.specs.Steps.Unlinking.{IsRouting}
 use Rattle.snap_steps.specs.declared.view.Stage.TheVariants.{Writing}
 use Rattle.snap_steps.specs.declared.view.View.{View}
 
@@ -40,28 +41,53 @@ pub record TakesEdge (rows : ℕ) (old new : Known) (e : Edge) : Type 0 where
 abbrev pub HoldsTurning : View → Turn → Type 0
 HoldsTurning v t = (r : ℕ) → r ≢ 0 → r ≢ t.parent.row → r ≢ t.row.row → r ≢ t.raised.row → times r v.holds ≡ 0
 
--- the pass can begin a rotation, and holds row 0 too
-pub record MayTurn (rows : Laid) (old k : Known) (t : Turn) : Type 0 where
+-- three rows one below the other were taken, the uppermost of which isn't row 0, and row 0 before them. No other is held
+pub record HasTaken (rows : Laid) (old k : Known) (t : Turn) : Type 0 where
   pub of : IsOf k rows
   pub rows_are : AreWithin rows.rows t
   pub turn : IsTurning k.view t
-  pub owes : k.view.debt ≡ no_debt
-  pub count : count_of t.row.stamp < last_count
   pub whole : k.view.doing ≡ Nothing
   pub stage : k.view.stage ≡ old.view.stage
   pub some : t.parent.row ≢ 0
   pub zero : Among 0 k.view.holds
   pub only : HoldsTurning k.view t
 
--- the pass is in a write without its entry, and in no change
-pub record IsWriting (rows : Laid) (k : Known) : Type 0 where
+-- the pass can begin a rotation at them
+pub record MayTurn (rows : Laid) (old k : Known) (t : Turn) : Type 0 where
+  pub taken : HasTaken rows old k t
+  pub owes : k.view.debt ≡ no_debt
+  pub count : count_of t.row.stamp < last_count
+
+-- the row may be unlinked: it has neither a value nor children, and the to-do key is its own
+pub record IsGone (v : View) (row : ℕ) : Type 0 where
+  pub routing : IsRouting v row 0
+  pub aims : AimsAt v row
+
+-- the pass can begin to unlink the lowest of them
+pub record MayUnlink (rows : Laid) (old k : Known) (t : Turn) : Type 0 where
+  pub taken : HasTaken rows old k t
+  pub gone : IsGone k.view t.raised.row
+
+-- the pass can begin to unlink the root, and holds no row but row 0 and the root
+pub record MayUnlinkRoot (rows : Laid) (old k : Known) (e : Edge) : Type 0 where
   pub of : IsOf k rows
-  pub stage : k.view.stage ≡ Writing false false
+  pub rows_are : IsWithin rows.rows e
+  pub edge : IsEdge k.view e
+  pub gone : IsGone k.view e.child.row
+  pub whole : k.view.doing ≡ Nothing
+  pub stage : k.view.stage ≡ old.view.stage
+  pub zero : Among 0 k.view.holds
+  pub only : HoldsOnly k.view 0 e.child.row
+
+-- the pass is in a write, with its entry or without, and in no change
+pub record IsWriting (rows : Laid) (k : Known) (made : Bool) : Type 0 where
+  pub of : IsOf k rows
+  pub stage : k.view.stage ≡ Writing made false
   pub whole : k.view.doing ≡ Nothing
 
--- and it holds row 0 and the rows of a rotation, and no other
-pub record HoldsTurn (rows : Laid) (k : Known) (t : Turn) : Type 0 where
-  pub writing : IsWriting rows k
+-- and it holds row 0 and three rows, and no other
+pub record HoldsTurn (rows : Laid) (k : Known) (made : Bool) (t : Turn) : Type 0 where
+  pub writing : IsWriting rows k made
   pub rows_are : AreWithin rows.rows t
   pub some : (t.parent.row ≢ 0) × (t.row.row ≢ 0) × (t.raised.row ≢ 0)
   pub apart : (t.parent.row ≢ t.row.row) × (t.parent.row ≢ t.raised.row) × (t.row.row ≢ t.raised.row)
@@ -71,11 +97,11 @@ pub record HoldsTurn (rows : Laid) (k : Known) (t : Turn) : Type 0 where
   pub raised : Among t.raised.row k.view.holds
   pub only : HoldsTurning k.view t
 
--- the pass can begin to unlink a row without children
-pub record MayUnlink (rows : Laid) (k : Known) (e : Edge) : Type 0 where
-  pub of : IsOf k rows
-  pub rows_are : IsWithin rows.rows e
-  pub edge : IsEdge k.view e
-  pub routing : IsRouting k.view e.child.row 0
-  pub aims : AimsNear k.view e.parent.row e.child.row
-  pub whole : k.view.doing ≡ Nothing
+-- the pass is in a write with its entry, and holds row 0 and this row, and no other
+pub record HoldsRoot (rows : Laid) (k : Known) (row : ℕ) : Type 0 where
+  pub writing : IsWriting rows k true
+  pub low : row ≤ rows.rows
+  pub some : row ≢ 0
+  pub zero : Among 0 k.view.holds
+  pub held : Among row k.view.holds
+  pub only : HoldsOnly k.view 0 row

@@ -1,5 +1,5 @@
 //! The rows of a change of the tree's shape, which a pass takes one below the other.
-ghost use Rattle.std.specs.Prelude.{◌≡◌, ◌<◌, ◌≤◌, [], IfSome, MatchOption};
+ghost use Rattle.std.specs.Prelude.{◌≡◌, ◌≢◌, ◌<◌, ◌≤◌, [], IfSome, IsTrue, MatchOption};
 ghost use Rattle.snap_copy.specs.Mending.{Looks};
 ghost use Rattle.snap_repair.specs.Answers.{IsMending};
 ghost use Rattle.snap_rule.specs.Debt.{no_debt};
@@ -9,7 +9,7 @@ ghost use Rattle.snap_stamp.specs.Stamps.{count_of, last_count};
 ghost use Rattle.snap_stamp.specs.declared.side.Side.TheVariants.{Right};
 ghost use Rattle.snap_steps.specs.Counting.{Among};
 ghost use Rattle.snap_steps.specs.Seen.{IsOf};
-ghost use Rattle.row_tests.specs.Stopping.{HoldsOnly, MayTurn, MayUnlink, Takes, TakesEdge};
+ghost use Rattle.row_tests.specs.Stopping.{HoldsOnly, IsGone, MayTurn, MayUnlink, MayUnlinkRoot, Takes, TakesEdge};
 
 use crate::waits::comes;
 use snap_locks::lock;
@@ -121,29 +121,67 @@ pub(crate) fn take_turn<R: Wait>(
     })
 }
 
-// The rows of an unlinking: the root's left child, and its right child, which has neither a value nor children.
-pub(crate) fn take_routing<R: Wait>(rows: &Rows, rt: &R, pass: &mut Pass) -> Option<Edge>
+// Whether a held row may be unlinked: it has neither a value nor children, and the to-do key is its own.
+fn is_gone(rows: &Rows, pass: &mut Pass, row: &Grip) -> bool
+    requires table { IsOf pass.old rows.now }
+    requires mending { IsMending pass.old.view }
+    requires row { (row.now.row ≤ rows.now.rows) × (row.now.row ≢ 0) }
+    requires grip { HasGrip pass.old.view row.now }
+    ensures looks { Looks pass.old pass.new }
+    ensures gone { IsTrue result → IsGone pass.new.view row.now.row }
+{
+    let value = load_word(rows, pass, row.row, Field::Value);
+    let left = load_word(rows, pass, row.row, Field::Left);
+    let right = load_word(rows, pass, row.row, Field::Right);
+    if value != 0 || left != 0 || right != 0 {
+        return false;
+    }
+    let Some(to_do) = pass.to_do() else {
+        return false;
+    };
+    to_do == row.key
+}
+
+// The rows of an unlinking, one below the other: the root, its left child, and the right child of that, which has neither
+// a value nor children.
+pub(crate) fn take_routing<R: Wait>(rows: &Rows, rt: &R, pass: &mut Pass) -> Option<Turn>
     requires table { IsOf pass.old rows.now }
     requires mending { IsMending pass.old.view }
     requires free { pass.old.view.holds ≡ [] }
-    ensures { IfSome result (λ e. MayUnlink rows.now pass.new e) }
+    ensures { IfSome result (λ t. MayUnlink rows.now pass.old pass.new t) }
 {
     let edge = take_edge(rows, rt, pass, Side::Left)?;
-    let (root, parent) = (edge.parent, edge.child);
-    let child = take_child(rows, rt, pass, root.row, &parent, Side::Right)?;
-    let value = load_word(rows, pass, child.row, Field::Value);
-    let left = load_word(rows, pass, child.row, Field::Left);
-    let right = load_word(rows, pass, child.row, Field::Right);
-    if value != 0 || left != 0 || right != 0 {
+    let (root, row) = (edge.parent, edge.child);
+    let raised = take_child(rows, rt, pass, root.row, &row, Side::Right)?;
+    if !is_gone(rows, pass, &raised) {
         return None;
     }
-    let to_do = pass.to_do()?;
-    if to_do != child.key {
+    Some(Turn {
+        parent: root,
+        parent_side: edge.side,
+        row,
+        side: Side::Right,
+        raised,
+    })
+}
+
+// The rows of an unlinking at the top: row 0 and the root, which has neither a value nor children.
+pub(crate) fn take_root<R: Wait>(rows: &Rows, rt: &R, pass: &mut Pass) -> Option<Edge>
+    requires table { IsOf pass.old rows.now }
+    requires mending { IsMending pass.old.view }
+    requires free { pass.old.view.holds ≡ [] }
+    ensures { IfSome result (λ e. MayUnlinkRoot rows.now pass.old pass.new e) }
+{
+    let holder = RowNo::HOLDER;
+    lock(rows, rt, pass, holder);
+    let top = grip_of(rows, pass, holder)?;
+    let root = take_child(rows, rt, pass, holder, &top, Side::Right)?;
+    if !is_gone(rows, pass, &root) {
         return None;
     }
     Some(Edge {
-        parent,
+        parent: top,
         side: Side::Right,
-        child,
+        child: root,
     })
 }

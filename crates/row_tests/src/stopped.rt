@@ -1,19 +1,18 @@
 //! A write that stops in the midst of a rotation or of an unlinking, and the reads that then come by.
-ghost use Rattle.std.specs.Prelude.{◌≡◌, ◌<◌, ◌≤◌, ◌+◌, ◌^◌, MatchResult};
+ghost use Rattle.std.specs.Prelude.{◌≡◌, ◌<◌, ◌≤◌, ◌+◌, ◌^◌, [], true, MatchResult};
 ghost use Rattle.snap_rule.specs.Debt.{no_debt};
 ghost use Rattle.snap_rule.specs.declared.change.Doing.TheVariants.{Nothing};
-ghost use Rattle.row_tests.specs.Stopping.{HoldsTurn};
+ghost use Rattle.row_tests.specs.Stopping.{HoldsRoot, HoldsTurn, IsGone, IsWriting};
 ghost use Rattle.snap_shape.specs.Grips.{AreWithin, IsEdge, IsTurning, IsWithin};
-ghost use Rattle.snap_shape.specs.Shapes.{Rotates};
+ghost use Rattle.snap_shape.specs.Shapes.{Rotates, Unlinks};
 ghost use Rattle.snap_stamp.specs.Stamps.{count_of, last_count};
 ghost use Rattle.snap_steps.specs.Seen.{IsOf};
-ghost use Rattle.snap_steps.specs.Steps.Unlinking.{AimsNear, IsRouting};
 ghost use Rattle.snap_table.specs.Calls.{IsIdle, Refuses, Replies};
 ghost use Rattle.snap_table.specs.Ready.{IsReadyTo};
 ghost use Rattle.snap_update.specs.Answers.{FitsWord};
 
 use crate::asserts::is;
-use crate::grips::{take_routing, take_turn};
+use crate::grips::{take_root, take_routing, take_turn};
 use crate::waits::{comes_free, comes_held};
 use snap_epoch::{enter, leave};
 use snap_locks::unlock;
@@ -139,20 +138,44 @@ fn rotate_slowly<R: Abort + Wait>(
     reads_find(rows, rt, alloc, reader, ALL_ANSWER);
 }
 
-// Frees what is held after a rotation, the lowered row first, which comes free; repairs, and ends the write.
-fn end_write<R: Wait + Abort>(rows: &Rows, rt: &R, pass: &mut Pass, reader: &mut Pass, turn: &Turn)
-    requires turn { HoldsTurn rows.now pass.old turn.now }
+// Repairs, and ends a write that holds no row. `made`: it made its entry.
+fn end_write<R: Wait>(rows: &Rows, rt: &R, pass: &mut Pass, made: bool)
+    requires writing { IsWriting rows.now pass.old made }
+    requires free { pass.old.view.holds ≡ [] }
+{
+    let _ = repair(rows, rt, pass);
+    leave(rows, pass, made);
+}
+
+// Frees three rows and row 0, the middle one first, which comes free, and ends the write.
+fn free_and_end<R: Wait + Abort>(
+    rows: &Rows,
+    rt: &R,
+    pass: &mut Pass,
+    reader: &mut Pass,
+    turn: &Turn,
+    made: bool,
+)
+    requires turn { HoldsTurn rows.now pass.old made turn.now }
     requires reader { IsOf reader.old rows.now }
     ensures { IsOf reader.new rows.now }
 {
-    let lowered = turn.row.row;
-    unlock(rows, pass, lowered);
-    is(rt, comes_free(rows, reader, lowered), true);
+    let middle = turn.row.row;
+    unlock(rows, pass, middle);
+    is(rt, comes_free(rows, reader, middle), true);
     unlock(rows, pass, turn.raised.row);
     unlock(rows, pass, turn.parent.row);
     unlock(rows, pass, RowNo::HOLDER);
-    let _ = repair(rows, rt, pass);
-    leave(rows, pass, false);
+    end_write(rows, rt, pass, made);
+}
+
+// Frees the root and row 0, and ends the write.
+fn free_root<R: Wait>(rows: &Rows, rt: &R, pass: &mut Pass, root: RowNo)
+    requires { HoldsRoot rows.now pass.old root }
+{
+    unlock(rows, pass, root);
+    unlock(rows, pass, RowNo::HOLDER);
+    end_write(rows, rt, pass, true);
 }
 
 // An unlinking of a row without children, with reads after each of its two steps.
@@ -168,9 +191,10 @@ fn unlink_slowly<R: Abort + Wait>(
     requires reader { IsOf reader.old rows.now }
     requires rows { IsWithin rows.now.rows edge.now }
     requires edge { IsEdge pass.old.view edge.now }
-    requires routing { IsRouting pass.old.view edge.now.child.row 0 }
-    requires aims { AimsNear pass.old.view edge.now.parent.row edge.now.child.row }
+    requires gone { IsGone pass.old.view edge.now.child.row }
     requires whole { pass.old.view.doing ≡ Nothing }
+    ensures reader { IsOf reader.new rows.now }
+    ensures unlinked { Unlinks pass.old pass.new edge.now 0 }
 {
     let (side, upper, upper_key) = (edge.side, edge.parent.row, edge.parent.key);
     let (row, stamp) = (edge.child.row, edge.child.stamp);
@@ -229,7 +253,7 @@ fn stop_in_rotation<R: Abort + Wait>(
     enter(rows, rt, pass);
     let turn = take_turn(rows, rt, pass, reader, 70).expect(rt, "no rotation");
     rotate_slowly(rows, rt, alloc, pass, reader, &turn);
-    end_write(rows, rt, pass, reader, &turn);
+    free_and_end(rows, rt, pass, reader, &turn, false);
     reads_find(rows, rt, alloc, reader, ALL_ANSWER);
 }
 
@@ -242,7 +266,7 @@ fn turn_beside<R: Abort + Wait>(rows: &Rows, rt: &R, mut pass: Pass, mut reader:
     let turn = take_turn(rows, rt, &mut pass, &mut reader, 80).expect(rt, "no rotation");
     let key = turn.row.key;
     let _ = rotate(rows, &mut pass, &turn, key);
-    end_write(rows, rt, &mut pass, &mut reader, &turn);
+    free_and_end(rows, rt, &mut pass, &mut reader, &turn, false);
 }
 
 // Puts 80 once the row of 60, which was the sixth to be drawn, is held.
@@ -260,6 +284,18 @@ fn put_eighty<R: Abort + Wait>(
     put(rows, rt, &mut pass, &Call::Put { key: 80, value: 80 })
 }
 
+// Begins a write and removes the key, by which the write has its entry, and holds no row.
+fn remove<R: Abort + Wait>(rows: &Rows, rt: &R, pass: &mut Pass, key: Key) -> Option<u64>
+    requires table { IsOf pass.old rows.now }
+    requires idle { IsIdle pass.old.view }
+    requires uses { pass.old.view.uses < 2 ^ 48 }
+    ensures writing { IsWriting rows.now pass.new true }
+    ensures free { pass.new.view.holds ≡ [] }
+{
+    enter(rows, rt, pass);
+    write(rows, rt, pass, &Call::Remove { key }).expect(rt, "no row is left")
+}
+
 fn stop_in_unlinking<R: Abort + Wait>(
     rows: &Rows,
     rt: &R,
@@ -270,13 +306,52 @@ fn stop_in_unlinking<R: Abort + Wait>(
     requires pass { IsReadyTo rows.now 0 7 pass.old }
     requires reader { IsOf reader.old rows.now }
 {
-    enter(rows, rt, pass);
-    let call = Call::Remove { key: 30 };
-    let reply = write(rows, rt, pass, &call).expect(rt, "no row is left");
-    is(rt, reply, Some(30));
+    is(rt, remove(rows, rt, pass, 30), Some(30));
     reads_find(rows, rt, alloc, reader, REMOVED_IS_NONE);
-    let edge = take_routing(rows, rt, pass).expect(rt, "no unlinking");
+    let turn = take_routing(rows, rt, pass).expect(rt, "no unlinking");
+    let edge = Edge {
+        parent: turn.row,
+        side: turn.side,
+        child: turn.raised,
+    };
     unlink_slowly(rows, rt, alloc, pass, reader, &edge);
+    free_and_end(rows, rt, pass, reader, &turn, true);
+    reads_find(rows, rt, alloc, reader, REMOVED_IS_NONE);
+}
+
+// An unlinking of the root, which is the one row of its tree and had the key 1, with reads after each of its two steps.
+fn unlink_root<R: Abort>(rows: &Rows, rt: &R, pass: &mut Pass, reader: &mut Pass, edge: &Edge)
+    requires table { IsOf pass.old rows.now }
+    requires reader { IsOf reader.old rows.now }
+    requires rows { IsWithin rows.now.rows edge.now }
+    requires edge { IsEdge pass.old.view edge.now }
+    requires gone { IsGone pass.old.view edge.now.child.row }
+    requires whole { pass.old.view.doing ≡ Nothing }
+    ensures reader { IsOf reader.new rows.now }
+    ensures unlinked { Unlinks pass.old pass.new edge.now 0 }
+{
+    let (side, upper, upper_key) = (edge.side, edge.parent.row, edge.parent.key);
+    let (row, stamp) = (edge.child.row, edge.child.stamp);
+    let none = RowNo::HOLDER;
+    let busy = Err(Busy {
+        left: 1,
+        entered: 2,
+    });
+    mark_unlinked(rows, pass, upper, side, row, none, stamp, upper_key);
+    is(rt, try_get(rows, reader, 1), busy);
+    splice(rows, pass, upper, side, row, none);
+    is(rt, try_get(rows, reader, 1), Ok(None));
+}
+
+fn stop_at_root<R: Abort + Wait>(rows: &Rows, rt: &R, pass: &mut Pass, reader: &mut Pass)
+    requires pass { IsReadyTo rows.now 0 1 pass.old }
+    requires reader { IsOf reader.old rows.now }
+{
+    is(rt, remove(rows, rt, pass, 1), Some(5));
+    let edge = take_root(rows, rt, pass).expect(rt, "no unlinking");
+    unlink_root(rows, rt, pass, reader, &edge);
+    free_root(rows, rt, pass, edge.child.row);
+    is(rt, try_get(rows, reader, 1), Ok(None));
 }
 
 #[test]
@@ -315,5 +390,16 @@ fn reads_meet_a_stopped_unlinking(rt: HostRuntime) -> Result<(), Fail> {
     let mut p = passes.pop().expect(&rt, "no first pass");
     is(&rt, put_seven(&rows, &rt, &mut p), true);
     stop_in_unlinking(&rows, &rt, rt.alloc(), &mut p, &mut q);
+    Ok(())
+}
+
+#[test]
+fn reads_meet_a_stopped_unlinking_of_the_root(rt: HostRuntime) -> Result<(), Fail> {
+    let (rows, mut passes) = Rows::open(rt.alloc(), 1, 2)?;
+    let mut q = passes.pop().expect(&rt, "no second pass");
+    let mut p = passes.pop().expect(&rt, "no first pass");
+    let call = Call::Put { key: 1, value: 5 };
+    is(&rt, put(&rows, &rt, &mut p, &call), Ok(None));
+    stop_at_root(&rows, &rt, &mut p, &mut q);
     Ok(())
 }

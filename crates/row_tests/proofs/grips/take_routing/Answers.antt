@@ -3,4 +3,4 @@ use Rattle.row_tests.proofs.Taking.{may_unlink}
 use Rattle.row_tests.proofs.grips.take_routing.Goals as goal
 
 pub returns : goal.returns
-returns g c = may_unlink c.args.rows.now c.args.pass.now c.take_edge.new.pass c.take_child.new.pass c.load_word-value.new.pass c.load_word-left.new.pass c.load_word-right.new.pass c.in_ok-edge.edge _ c.in_ok-child.child c.requires.table c.requires.mending c.in_ok-edge.ensures c.in_ok-child.ensures (search rules) (search rules) (search rules) (search rules)
+returns g c = may_unlink c.args.rows.now c.args.pass.now c.take_edge.new.pass c.take_child.new.pass c.is_gone.new.pass c.in_ok-edge.edge _ c.in_ok-raised.raised c.requires.table c.requires.mending c.in_ok-edge.ensures c.in_ok-raised.ensures c.is_gone.ensures.looks (c.is_gone.ensures.gone (search rules))

@@ -1,4 +1,4 @@
-use Rattle.std.proofs.Common.{ap, rules}
+use Rattle.std.proofs.Common.{ap, false, rules}
 use Rattle.row_tests.proofs.Entering.{entered_mending}
 use Rattle.row_tests.proofs.Freeing.{holds_turn}
 use Rattle.row_tests.proofs.stopped.stop_in_rotation.Goals as goal
@@ -8,8 +8,8 @@ use Rattle.snap_steps.specs.Seen.{Known}
 pub take_turn-requires-clause-mending : goal.take_turn-requires-clause-mending
 take_turn-requires-clause-mending g c = entered_mending c.args.pass.now c.enter.new.pass c.requires.pass.idle c.enter.ensures
 
-pub end_write-requires-clause-turn : goal.end_write-requires-clause-turn
-end_write-requires-clause-turn g c =
+pub free_and_end-requires-clause-turn : goal.free_and_end-requires-clause-turn
+free_and_end-requires-clause-turn g c =
     let a = c.enter.new.pass in let b = c.take_turn.new.pass in let t = c.expect-turn.result in
     let may : MayTurn c.args.rows.now a b t = search rules in
-    holds_turn c.args.rows.now a b c.rotate_slowly.new.pass t (ap (λ (k : Known). k.view.stage) c.enter.ensures.is) may c.rotate_slowly.ensures.turned
+    holds_turn c.args.rows.now a b c.rotate_slowly.new.pass false t t.parent.row t.row.row t.raised.row (ap (λ (k : Known). k.view.stage) c.enter.ensures.is) may.taken c.rotate_slowly.ensures.turned.keeps

@@ -1,5 +1,10 @@
-use Rattle.snap_table.proofs.Gated.{ready}
+use Rattle.std.proofs.Common.{rules, true}
+use Rattle.row_tests.proofs.Freeing.{holds_turn}
 use Rattle.row_tests.proofs.stopped.stop_in_unlinking.Goals as goal
+use Rattle.row_tests.specs.Stopping.{MayUnlink}
 
-pub write-requires-clause-ready : goal.write-requires-clause-ready
-write-requires-clause-ready g c = ready c.args.pass.now c.enter.new.pass _ c.requires.pass.idle c.enter.ensures
+pub free_and_end-requires-clause-turn : goal.free_and_end-requires-clause-turn
+free_and_end-requires-clause-turn g c =
+    let a = c.remove.new.pass in let b = c.take_routing.new.pass in let t = c.expect-turn.result in
+    let may : MayUnlink c.args.rows.now a b t = search rules in
+    holds_turn c.args.rows.now a b c.unlink_slowly.new.pass true t t.row.row t.raised.row t.raised.row c.remove.ensures.writing.stage may.taken c.unlink_slowly.ensures.unlinked.keeps

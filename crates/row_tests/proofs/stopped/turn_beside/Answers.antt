@@ -1,4 +1,4 @@
-use Rattle.std.proofs.Common.{ap, inl, rules}
+use Rattle.std.proofs.Common.{ap, false, inl, rules}
 use Rattle.row_tests.proofs.Entering.{entered_mending}
 use Rattle.row_tests.proofs.Freeing.{holds_turn}
 use Rattle.row_tests.proofs.stopped.turn_beside.Goals as goal
@@ -11,10 +11,10 @@ take_turn-requires-clause-mending g c = entered_mending c.args.pass c.enter.new.
 pub rotate-requires-clause-aims : goal.rotate-requires-clause-aims
 rotate-requires-clause-aims g c =
     let may : MayTurn c.args.rows.now c.enter.new.pass c.take_turn.new.pass c.expect-turn.result = search rules in
-    inl (may.turn.upper.below.is_key, inl may.owes)
+    inl (may.taken.turn.upper.below.is_key, inl may.owes)
 
-pub end_write-requires-clause-turn : goal.end_write-requires-clause-turn
-end_write-requires-clause-turn g c =
+pub free_and_end-requires-clause-turn : goal.free_and_end-requires-clause-turn
+free_and_end-requires-clause-turn g c =
     let a = c.enter.new.pass in let b = c.take_turn.new.pass in let t = c.expect-turn.result in
     let may : MayTurn c.args.rows.now a b t = search rules in
-    holds_turn c.args.rows.now a b c.rotate.new.pass t (ap (λ (k : Known). k.view.stage) c.enter.ensures.is) may c.rotate.ensures.turned
+    holds_turn c.args.rows.now a b c.rotate.new.pass false t t.parent.row t.row.row t.raised.row (ap (λ (k : Known). k.view.stage) c.enter.ensures.is) may.taken c.rotate.ensures.turned.keeps
