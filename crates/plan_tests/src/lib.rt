@@ -4,7 +4,7 @@
 #[cfg(test)]
 mod asserts;
 #[cfg(test)]
-mod growing;
+mod changing;
 #[cfg(test)]
 mod made;
 #[cfg(test)]
