@@ -1,8 +1,8 @@
 -- The rows of a change are freed one after another.
-use Rattle.std.proofs.Common.{◌≡◌, ◌≢◌, ℕ, List, [], ◌∷◌, Bool, false, true, refl, ap, ◌∙◌, arith}
+use Rattle.std.proofs.Common.{◌≡◌, ◌≢◌, ℕ, List, [], ◌∷◌, Bool, false, true, refl, sym, ap, ◌∙◌, arith}
 use mathlib.Core.Logic.{dite}
 use native.Mathlib.Decide.{ℕ_discrete}
-use Rattle.row_tests.specs.Stopping.{HasTaken, HoldsRoot, HoldsTurn, IsWriting, MayUnlinkRoot}
+use Rattle.row_tests.specs.Stopping.{HasTaken, HoldsRoot, HoldsTop, HoldsTurn, IsWriting, MayUnlinkRoot}
 use Rattle.snap_shape.specs.Shapes.{Keeps}
 use Rattle.snap_shape.specs.declared.grip.Edge.{Edge}
 use Rattle.snap_shape.specs.declared.grip.Turn.{Turn}
@@ -42,8 +42,8 @@ none_held rows a b d e f made t h first second third last =
     ∙ ap (removed 0) (ap (λ (k : Known). k.view.holds) third ∙ ap (removed t.parent.row) (ap (λ (k : Known). k.view.holds) second ∙ ap (removed t.raised.row) (ap (λ (k : Known). k.view.holds) first)))
     ∙ all_freed a.view.holds t.parent.row t.raised.row t.row.row (λ r nz n1 n2 n3. h.only r nz n1 n3 n2)
 
-pub none_held_below : (rows : Laid) (a b c : Known) (row : ℕ) → HoldsRoot rows a row → Becomes a b (unlocked a.view row) → Becomes b c (unlocked b.view 0) → c.view.holds ≡ []
-none_held_below rows a b c row h first last =
+pub none_held_below : (rows : Laid) (a b c : Known) (made : Bool) (row : ℕ) → HoldsRoot rows a made row → Becomes a b (unlocked a.view row) → Becomes b c (unlocked b.view 0) → c.view.holds ≡ []
+none_held_below rows a b c made row h first last =
     ap (λ (k : Known). k.view.holds) last
     ∙ ap (removed 0) (ap (λ (k : Known). k.view.holds) first)
     ∙ none_left (removed 0 (removed row a.view.holds)) (λ r. gone r 0 (removed row a.view.holds) (λ nz. gone r row a.view.holds (λ nr. h.only r nz nz nr)))
@@ -56,11 +56,11 @@ writes_on rows a b c made x y z stage of same k = record {
   whole = k.whole;
 }
 
-pub holds_turn : (rows : Laid) (a b c : Known) (made : Bool) (t : Turn) (x y z : ℕ) → a.view.stage ≡ Writing made false → HasTaken rows a b t → Keeps b c x y z → HoldsTurn rows c made t
-holds_turn rows a b c made t x y z stage m k = record {
+pub holds_turn : (rows : Laid) (a b c : Known) (made : Bool) (t : Turn) (x y z : ℕ) → a.view.stage ≡ Writing made false → HasTaken rows a b t → t.parent.row ≢ 0 → Keeps b c x y z → HoldsTurn rows c made t
+holds_turn rows a b c made t x y z stage m some k = record {
   writing = writes_on rows a b c made x y z stage m.of m.stage k;
   rows_are = m.rows_are;
-  some = (m.some, m.turn.upper.is_row, m.turn.lower.is_row);
+  some = (some, m.turn.upper.is_row, m.turn.lower.is_row);
   apart = (m.turn.upper.apart, m.turn.apart, m.turn.lower.apart);
   zero = omega (arith, m.zero, ap (λ (k : Known). times 0 k.view.holds) k.is);
   upper = omega (arith, m.turn.upper.above.held, ap (λ (k : Known). times t.parent.row k.view.holds) k.is);
@@ -69,7 +69,30 @@ holds_turn rows a b c made t x y z stage m k = record {
   only = λ q nz n1 n2 n3. ap (λ (k : Known). times q k.view.holds) k.is ∙ m.only q nz n1 n2 n3;
 }
 
-pub holds_root : (rows : Laid) (a b c : Known) (e : Edge) (x y z : ℕ) → a.view.stage ≡ Writing true false → MayUnlinkRoot rows a b e → Keeps b c x y z → HoldsRoot rows c e.child.row
+pub holds_top : (rows : Laid) (a b c : Known) (made : Bool) (t : Turn) (x y z : ℕ) → a.view.stage ≡ Writing made false → HasTaken rows a b t → t.parent.row ≡ 0 → Keeps b c x y z → HoldsTop rows c made t.row.row t.raised.row
+holds_top rows a b c made t x y z stage m top k = record {
+  writing = writes_on rows a b c made x y z stage m.of m.stage k;
+  rows_are = (m.rows_are.1, m.rows_are.2);
+  some = (m.turn.upper.is_row, m.turn.lower.is_row);
+  apart = m.turn.lower.apart;
+  zero = omega (arith, m.zero, ap (λ (k : Known). times 0 k.view.holds) k.is);
+  row_held = omega (arith, m.turn.upper.below.held, ap (λ (k : Known). times t.row.row k.view.holds) k.is);
+  raised_held = omega (arith, m.turn.lower.below.held, ap (λ (k : Known). times t.raised.row k.view.holds) k.is);
+  only = λ q nz n1 n2. ap (λ (k : Known). times q k.view.holds) k.is ∙ m.only q nz (λ e. nz (e ∙ top)) n1 n2;
+}
+
+-- the lower one is freed, and the root is left
+pub root_left : (rows : Laid) (a b : Known) (made : Bool) (row raised : ℕ) → HoldsTop rows a made row raised → Becomes a b (unlocked a.view raised) → HoldsRoot rows b made row
+root_left rows a b made row raised h e = record {
+  writing = writing_still rows a b raised made e h.writing;
+  low = h.rows_are.0;
+  some = h.some.0;
+  zero = held_still a b raised 0 e (λ z. h.some.1 (sym z)) h.zero;
+  held = held_still a b raised row e h.apart h.row_held;
+  only = λ q nz _ n. ap (λ (k : Known). times q k.view.holds) e ∙ gone q raised a.view.holds (λ nr. h.only q nz n nr);
+}
+
+pub holds_root : (rows : Laid) (a b c : Known) (e : Edge) (x y z : ℕ) → a.view.stage ≡ Writing true false → MayUnlinkRoot rows a b e → Keeps b c x y z → HoldsRoot rows c true e.child.row
 holds_root rows a b c e x y z stage m k = record {
   writing = writes_on rows a b c true x y z stage m.of m.stage k;
   low = m.rows_are.1;

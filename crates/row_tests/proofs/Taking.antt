@@ -21,7 +21,7 @@ use Rattle.snap_steps.specs.Facts.{IsKnown}
 use Rattle.snap_steps.specs.Seen.{Becomes, IsOf, Known, Laid}
 use Rattle.snap_steps.specs.States.{link_field}
 use Rattle.snap_steps.specs.Steps.Fields.{read}
-use Rattle.row_tests.specs.Stopping.{HasTaken, HoldsOnly, IsGone, MayTurn, MayUnlink, MayUnlinkRoot, Takes, TakesEdge}
+use Rattle.row_tests.specs.Stopping.{HasTaken, HoldsOnly, IsGone, MayTurn, MayTurnRoot, MayUnlink, MayUnlinkRoot, Takes, TakesEdge, TakesTop}
 
 pub grip_kept : (a b : Known) (g : Grip) → Firm a b NoWord → HasGrip a.view g → HasGrip b.view g
 grip_kept a b g f h = grip_firm a b NoWord g f (λ z. z) (λ z. z) (λ z. z) h
@@ -76,13 +76,25 @@ takes rows a b c d upper n parent child side load l s is grip above leads nz n1 
 pub root_only : (rows : ℕ) (a b : Known) (top root : Grip) (side : Side) → top.row ≡ 0 → Takes rows a b 0 top side root → HoldsOnly b.view 0 root.row
 root_only rows a b top root side is t = λ r nz n1 n2. t.only r nz n1 (λ z. nz (z ∙ is)) n2
 
-pub takes_edge : (rows : ℕ) (a b c d e : Known) (top root row : Grip) (up side : Side) → HasLocked a b 0 → Looks b c → Takes rows c d 0 top up root → Takes rows d e 0 root side row → TakesEdge rows a e (edge_at root side row)
-takes_edge rows a b c d e top root row up side l s t u = record {
-  firm = firm_on a c e (firm_on a b c (locked_firm a b 0 l).0 s.0) (firm_on c d e t.firm u.firm);
+pub takes_top : (rows : ℕ) (a b c d : Known) (top root : Grip) (side : Side) → HasLocked a b 0 → Looks b c → top.row ≡ 0 → Takes rows c d 0 top side root → TakesTop rows a d (edge_at top side root)
+takes_top rows a b c d top root side l s is t =
+    let lock = locked_firm a b 0 l in
+    let on : Firm b d NoWord = firm_on b c d s.0 t.firm in record {
+      firm = firm_on a b d lock.0 on;
+      edge = t.edge;
+      low = (omega (arith, is), t.low);
+      top = is;
+      zero = on.held 0 (omega (arith, ap (times 0) lock.1, one_same 0 0 refl));
+      only = root_only rows c d top root side is t;
+    }
+
+pub takes_edge : (rows : ℕ) (a b c : Known) (e : Edge) (row : Grip) (side : Side) → TakesTop rows a b e → Takes rows b c 0 e.child side row → TakesEdge rows a c (edge_at e.child side row)
+takes_edge rows a b c e row side t u = record {
+  firm = firm_on a b c t.firm u.firm;
   edge = u.edge;
-  low = (t.low, u.low);
+  low = (t.low.1, u.low);
   some = t.edge.is_row;
-  zero = (firm_on b c e s.0 (firm_on c d e t.firm u.firm)).held 0 (omega (arith, ap (times 0) (locked_firm a b 0 l).1, one_same 0 0 refl));
+  zero = u.firm.held 0 t.zero;
   only = λ r nz n1 n2. u.only r nz nz n1 n2;
 }
 
@@ -98,7 +110,6 @@ has_taken rows a b c e side raised of m t u =
       turn = record { upper = edge_kept b c e.parent e.child e.side u.firm t.edge; lower = u.edge; apart = λ z. u.apart (sym z) };
       whole = all.mends.whole ∙ m.whole;
       stage = ap (λ (k : Known). k.view.stage) all.mends.is;
-      some = t.some;
       zero = u.firm.held 0 t.zero;
       only = u.only;
     }
@@ -110,14 +121,31 @@ taken_on rows a b c t h s = record {
   turn = record { upper = edge_kept b c t.parent t.row t.parent_side s.0 h.turn.upper; lower = edge_kept b c t.row t.raised t.side s.0 h.turn.lower; apart = h.turn.apart };
   whole = s.0.mends.whole ∙ h.whole;
   stage = ap (λ (k : Known). k.view.stage) s.0.mends.is ∙ h.stage;
-  some = h.some;
   zero = s.0.held 0 h.zero;
   only = λ r nz n1 n2 n3. ap (times r) s.1 ∙ h.only r nz n1 n2 n3;
 }
 
 -- the rows of a rotation
 pub may_turn : (rows : Laid) (a b c : Known) (e : Edge) (side : Side) (raised : Grip) → IsOf a rows → IsMending a.view → a.view.debt ≡ no_debt → TakesEdge rows.rows a b e → Takes rows.rows b c e.parent.row e.child side raised → count_of e.child.stamp < last_count → MayTurn rows a c (turn_at e.parent e.side e.child side raised)
-may_turn rows a b c e side raised of m owes t u count = record { taken = has_taken rows a b c e side raised of m t u; owes = (firm_on a b c t.firm u.firm).debt ∙ owes; count = count }
+may_turn rows a b c e side raised of m owes t u count = record { taken = has_taken rows a b c e side raised of m t u; some = t.some; owes = (firm_on a b c t.firm u.firm).debt ∙ owes; count = count }
+
+-- the rows of a rotation of the root
+pub may_turn_root : (rows : Laid) (a b c : Known) (e : Edge) (side : Side) (raised : Grip) → IsOf a rows → IsMending a.view → a.view.debt ≡ no_debt → TakesTop rows.rows a b e → Takes rows.rows b c 0 e.child side raised → count_of e.child.stamp < last_count → MayTurnRoot rows a c (turn_at e.parent e.side e.child side raised)
+may_turn_root rows a b c e side raised of m owes t u count =
+    let all : Firm a c NoWord = firm_on a b c t.firm u.firm in record {
+      taken = record {
+        of = of_kept rows a c all of;
+        rows_are = (t.low.0, t.low.1, u.low);
+        turn = record { upper = edge_kept b c e.parent e.child e.side u.firm t.edge; lower = u.edge; apart = λ z. u.apart (sym z ∙ t.top) };
+        whole = all.mends.whole ∙ m.whole;
+        stage = ap (λ (k : Known). k.view.stage) all.mends.is;
+        zero = u.firm.held 0 t.zero;
+        only = λ r nz n1 n2 n3. u.only r nz nz n2 n3;
+      };
+      top = t.top;
+      owes = all.debt ∙ owes;
+      count = count;
+    }
 
 abbrev word : Known → Known → ℕ → Field → ℕ → Type 0
 word a b r f x = Becomes a b (read a.view r f x)
@@ -143,20 +171,18 @@ tells_gone a b c d row grip some value left right to_do =
 
 -- the rows of an unlinking
 pub may_unlink : (rows : Laid) (a b c d : Known) (e : Edge) (side : Side) (raised : Grip) → IsOf a rows → IsMending a.view → TakesEdge rows.rows a b e → Takes rows.rows b c e.parent.row e.child side raised → Looks c d → IsGone d.view raised.row → MayUnlink rows a d (turn_at e.parent e.side e.child side raised)
-may_unlink rows a b c d e side raised of m t u s gone = record { taken = taken_on rows a c d (turn_at e.parent e.side e.child side raised) (has_taken rows a b c e side raised of m t u) s; gone = gone }
+may_unlink rows a b c d e side raised of m t u s gone = record { taken = taken_on rows a c d (turn_at e.parent e.side e.child side raised) (has_taken rows a b c e side raised of m t u) s; some = t.some; gone = gone }
 
 -- row 0 and the root
-pub may_unlink_root : (rows : Laid) (a b c d f : Known) (top root : Grip) (side : Side) → IsOf a rows → IsMending a.view → HasLocked a b 0 → Looks b c → top.row ≡ 0 → Takes rows.rows c d 0 top side root → Looks d f → IsGone f.view root.row → MayUnlinkRoot rows a f (edge_at top side root)
-may_unlink_root rows a b c d f top root side of m l s is t w gone =
-    let lock = locked_firm a b 0 l in
-    let on : Firm b f NoWord = firm_on b c f s.0 (firm_on c d f t.firm w.0) in
-    let all : Firm a f NoWord = firm_on a b f lock.0 on in record {
-      of = of_kept rows a f all of;
-      rows_are = (omega (arith, is), t.low);
-      edge = edge_kept d f top root side w.0 t.edge;
+pub may_unlink_root : (rows : Laid) (a b c : Known) (e : Edge) → IsOf a rows → IsMending a.view → TakesTop rows.rows a b e → Looks b c → IsGone c.view e.child.row → MayUnlinkRoot rows a c e
+may_unlink_root rows a b c e of m t w gone =
+    let all : Firm a c NoWord = firm_on a b c t.firm w.0 in record {
+      of = of_kept rows a c all of;
+      rows_are = t.low;
+      edge = edge_kept b c e.parent e.child e.side w.0 t.edge;
       gone = gone;
       whole = all.mends.whole ∙ m.whole;
       stage = ap (λ (k : Known). k.view.stage) all.mends.is;
-      zero = on.held 0 (omega (arith, ap (times 0) lock.1, one_same 0 0 refl));
-      only = λ r nz n1 n2. ap (times r) w.1 ∙ root_only rows.rows c d top root side is t r nz n1 n2;
+      zero = w.0.held 0 t.zero;
+      only = λ r nz n1 n2. ap (times r) w.1 ∙ t.only r nz n1 n2;
     }

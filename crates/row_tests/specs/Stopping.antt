@@ -1,5 +1,5 @@
 -- A write that stops in the midst of a change of the tree's shape: the rows that its pass has taken until then.
-use Rattle.std.specs.Prelude.{◌≡◌, ◌≢◌, ◌≤◌, ◌<◌, ℕ, Bool, false, true}
+use Rattle.std.specs.Prelude.{◌≡◌, ◌≢◌, ◌≤◌, ◌<◌, ℕ, Bool, false}
 use Rattle.snap_copy.specs.Mending.{Firm, NoWord}
 use Rattle.snap_rule.specs.declared.change.Doing.TheVariants.{Nothing}
 use Rattle.snap_stamp.specs.Stamps.{count_of, last_count}
@@ -28,6 +28,15 @@ pub record Takes (rows : ℕ) (old new : Known) (upper : ℕ) (parent : Grip) (d
   pub apart : child.row ≢ upper
   pub only : (r : ℕ) → r ≢ 0 → r ≢ upper → r ≢ parent.row → r ≢ child.row → times r new.view.holds ≡ 0
 
+-- row 0 and the root are held, and no other
+pub record TakesTop (rows : ℕ) (old new : Known) (e : Edge) : Type 0 where
+  pub firm : Firm old new NoWord
+  pub edge : IsEdge new.view e
+  pub low : IsWithin rows e
+  pub top : e.parent.row ≡ 0
+  pub zero : Among 0 new.view.holds
+  pub only : HoldsOnly new.view 0 e.child.row
+
 -- row 0, the root and its child on a side are held
 pub record TakesEdge (rows : ℕ) (old new : Known) (e : Edge) : Type 0 where
   pub firm : Firm old new NoWord
@@ -41,20 +50,27 @@ pub record TakesEdge (rows : ℕ) (old new : Known) (e : Edge) : Type 0 where
 abbrev pub HoldsTurning : View → Turn → Type 0
 HoldsTurning v t = (r : ℕ) → r ≢ 0 → r ≢ t.parent.row → r ≢ t.row.row → r ≢ t.raised.row → times r v.holds ≡ 0
 
--- three rows one below the other were taken, the uppermost of which isn't row 0, and row 0 before them. No other is held
+-- three rows one below the other were taken, and row 0, which may be the uppermost of them. No other is held
 pub record HasTaken (rows : Laid) (old k : Known) (t : Turn) : Type 0 where
   pub of : IsOf k rows
   pub rows_are : AreWithin rows.rows t
   pub turn : IsTurning k.view t
   pub whole : k.view.doing ≡ Nothing
   pub stage : k.view.stage ≡ old.view.stage
-  pub some : t.parent.row ≢ 0
   pub zero : Among 0 k.view.holds
   pub only : HoldsTurning k.view t
 
--- the pass can begin a rotation at them
+-- the pass can begin a rotation at them, below the root
 pub record MayTurn (rows : Laid) (old k : Known) (t : Turn) : Type 0 where
   pub taken : HasTaken rows old k t
+  pub some : t.parent.row ≢ 0
+  pub owes : k.view.debt ≡ no_debt
+  pub count : count_of t.row.stamp < last_count
+
+-- the pass can begin a rotation of the root
+pub record MayTurnRoot (rows : Laid) (old k : Known) (t : Turn) : Type 0 where
+  pub taken : HasTaken rows old k t
+  pub top : t.parent.row ≡ 0
   pub owes : k.view.debt ≡ no_debt
   pub count : count_of t.row.stamp < last_count
 
@@ -63,9 +79,10 @@ pub record IsGone (v : View) (row : ℕ) : Type 0 where
   pub routing : IsRouting v row 0
   pub aims : AimsAt v row
 
--- the pass can begin to unlink the lowest of them
+-- the pass can begin to unlink the lowest of them, none of which is row 0
 pub record MayUnlink (rows : Laid) (old k : Known) (t : Turn) : Type 0 where
   pub taken : HasTaken rows old k t
+  pub some : t.parent.row ≢ 0
   pub gone : IsGone k.view t.raised.row
 
 -- the pass can begin to unlink the root, and holds no row but row 0 and the root
@@ -97,9 +114,20 @@ pub record HoldsTurn (rows : Laid) (k : Known) (made : Bool) (t : Turn) : Type 0
   pub raised : Among t.raised.row k.view.holds
   pub only : HoldsTurning k.view t
 
--- the pass is in a write with its entry, and holds row 0 and this row, and no other
-pub record HoldsRoot (rows : Laid) (k : Known) (row : ℕ) : Type 0 where
-  pub writing : IsWriting rows k true
+-- and it holds row 0 and these two rows, and no other
+pub record HoldsTop (rows : Laid) (k : Known) (made : Bool) (row raised : ℕ) : Type 0 where
+  pub writing : IsWriting rows k made
+  pub rows_are : (row ≤ rows.rows) × (raised ≤ rows.rows)
+  pub some : (row ≢ 0) × (raised ≢ 0)
+  pub apart : row ≢ raised
+  pub zero : Among 0 k.view.holds
+  pub row_held : Among row k.view.holds
+  pub raised_held : Among raised k.view.holds
+  pub only : HoldsOnly k.view row raised
+
+-- and it holds row 0 and this row, and no other
+pub record HoldsRoot (rows : Laid) (k : Known) (made : Bool) (row : ℕ) : Type 0 where
+  pub writing : IsWriting rows k made
   pub low : row ≤ rows.rows
   pub some : row ≢ 0
   pub zero : Among 0 k.view.holds

@@ -9,7 +9,7 @@ ghost use Rattle.snap_stamp.specs.Stamps.{count_of, last_count};
 ghost use Rattle.snap_stamp.specs.declared.side.Side.TheVariants.{Right};
 ghost use Rattle.snap_steps.specs.Counting.{Among};
 ghost use Rattle.snap_steps.specs.Seen.{IsOf};
-ghost use Rattle.row_tests.specs.Stopping.{HoldsOnly, IsGone, MayTurn, MayUnlink, MayUnlinkRoot, Takes, TakesEdge};
+ghost use Rattle.row_tests.specs.Stopping.{HoldsOnly, IsGone, MayTurn, MayTurnRoot, MayUnlink, MayUnlinkRoot, Takes, TakesEdge, TakesTop};
 
 use crate::waits::comes;
 use snap_locks::lock;
@@ -67,6 +67,24 @@ fn take_child<R: Wait>(
     Some(grip)
 }
 
+// Locks row 0 and the root.
+fn take_top<R: Wait>(rows: &Rows, rt: &R, pass: &mut Pass) -> Option<Edge>
+    requires table { IsOf pass.old rows.now }
+    requires mending { IsMending pass.old.view }
+    requires free { pass.old.view.holds ≡ [] }
+    ensures { IfSome result (λ e. TakesTop rows.now.rows pass.old pass.new e) }
+{
+    let holder = RowNo::HOLDER;
+    lock(rows, rt, pass, holder);
+    let top = grip_of(rows, pass, holder)?;
+    let root = take_child(rows, rt, pass, holder, &top, Side::Right)?;
+    Some(Edge {
+        parent: top,
+        side: Side::Right,
+        child: root,
+    })
+}
+
 // Locks row 0, the root, and the root's child on a side.
 fn take_edge<R: Wait>(rows: &Rows, rt: &R, pass: &mut Pass, side: Side) -> Option<Edge>
     requires table { IsOf pass.old rows.now }
@@ -74,11 +92,9 @@ fn take_edge<R: Wait>(rows: &Rows, rt: &R, pass: &mut Pass, side: Side) -> Optio
     requires free { pass.old.view.holds ≡ [] }
     ensures { IfSome result (λ e. TakesEdge rows.now.rows pass.old pass.new e) }
 {
-    let holder = RowNo::HOLDER;
-    lock(rows, rt, pass, holder);
-    let top = grip_of(rows, pass, holder)?;
-    let root = take_child(rows, rt, pass, holder, &top, Side::Right)?;
-    let row = take_child(rows, rt, pass, holder, &root, side)?;
+    let edge = take_top(rows, rt, pass)?;
+    let root = edge.child;
+    let row = take_child(rows, rt, pass, RowNo::HOLDER, &root, side)?;
     Some(Edge {
         parent: root,
         side,
@@ -116,6 +132,29 @@ pub(crate) fn take_turn<R: Wait>(
         parent: root,
         parent_side: edge.side,
         row,
+        side: Side::Right,
+        raised,
+    })
+}
+
+// The rows of a rotation at the root, which is to go down below its right child: row 0, the root and that child.
+pub(crate) fn take_top_turn<R: Wait>(rows: &Rows, rt: &R, pass: &mut Pass) -> Option<Turn>
+    requires table { IsOf pass.old rows.now }
+    requires mending { IsMending pass.old.view }
+    requires free { pass.old.view.holds ≡ [] }
+    requires owes { pass.old.view.debt ≡ no_debt }
+    ensures { IfSome result (λ t. MayTurnRoot rows.now pass.old pass.new t) }
+{
+    let edge = take_top(rows, rt, pass)?;
+    let (top, root) = (edge.parent, edge.child);
+    let raised = take_child(rows, rt, pass, RowNo::HOLDER, &root, Side::Right)?;
+    if Stamp::of(root.stamp).is_last() {
+        return None;
+    }
+    Some(Turn {
+        parent: top,
+        parent_side: edge.side,
+        row: root,
         side: Side::Right,
         raised,
     })
@@ -172,16 +211,10 @@ pub(crate) fn take_root<R: Wait>(rows: &Rows, rt: &R, pass: &mut Pass) -> Option
     requires free { pass.old.view.holds ≡ [] }
     ensures { IfSome result (λ e. MayUnlinkRoot rows.now pass.old pass.new e) }
 {
-    let holder = RowNo::HOLDER;
-    lock(rows, rt, pass, holder);
-    let top = grip_of(rows, pass, holder)?;
-    let root = take_child(rows, rt, pass, holder, &top, Side::Right)?;
+    let edge = take_top(rows, rt, pass)?;
+    let root = edge.child;
     if !is_gone(rows, pass, &root) {
         return None;
     }
-    Some(Edge {
-        parent: top,
-        side: Side::Right,
-        child: root,
-    })
+    Some(edge)
 }

@@ -1,8 +1,8 @@
 //! A write that stops in the midst of a rotation or of an unlinking, and the reads that then come by.
-ghost use Rattle.std.specs.Prelude.{◌≡◌, ◌<◌, ◌≤◌, ◌+◌, ◌^◌, [], true, MatchResult};
+ghost use Rattle.std.specs.Prelude.{◌≡◌, ◌<◌, ◌≤◌, ◌+◌, ◌^◌, [], false, true, MatchResult};
 ghost use Rattle.snap_rule.specs.Debt.{no_debt};
 ghost use Rattle.snap_rule.specs.declared.change.Doing.TheVariants.{Nothing};
-ghost use Rattle.row_tests.specs.Stopping.{HoldsRoot, HoldsTurn, IsGone, IsWriting};
+ghost use Rattle.row_tests.specs.Stopping.{HoldsRoot, HoldsTop, HoldsTurn, IsGone, IsWriting};
 ghost use Rattle.snap_shape.specs.Grips.{AreWithin, IsEdge, IsTurning, IsWithin};
 ghost use Rattle.snap_shape.specs.Shapes.{Rotates, Unlinks};
 ghost use Rattle.snap_stamp.specs.Stamps.{count_of, last_count};
@@ -12,7 +12,7 @@ ghost use Rattle.snap_table.specs.Ready.{IsReadyTo};
 ghost use Rattle.snap_update.specs.Answers.{FitsWord};
 
 use crate::asserts::is;
-use crate::grips::{take_root, take_routing, take_turn};
+use crate::grips::{take_root, take_routing, take_top_turn, take_turn};
 use crate::waits::{comes_free, comes_held};
 use snap_epoch::{enter, leave};
 use snap_locks::unlock;
@@ -170,12 +170,20 @@ fn free_and_end<R: Wait + Abort>(
 }
 
 // Frees the root and row 0, and ends the write.
-fn free_root<R: Wait>(rows: &Rows, rt: &R, pass: &mut Pass, root: RowNo)
-    requires { HoldsRoot rows.now pass.old root }
+fn free_root<R: Wait>(rows: &Rows, rt: &R, pass: &mut Pass, root: RowNo, made: bool)
+    requires { HoldsRoot rows.now pass.old made root }
 {
     unlock(rows, pass, root);
     unlock(rows, pass, RowNo::HOLDER);
-    end_write(rows, rt, pass, true);
+    end_write(rows, rt, pass, made);
+}
+
+// Frees the two rows of a rotation at the root and row 0, and ends a write that made no entry.
+fn free_top<R: Wait>(rows: &Rows, rt: &R, pass: &mut Pass, turn: &Turn)
+    requires { HoldsTop rows.now pass.old false turn.now.row.row turn.now.raised.row }
+{
+    unlock(rows, pass, turn.raised.row);
+    free_root(rows, rt, pass, turn.row.row, false);
 }
 
 // An unlinking of a row without children, with reads after each of its two steps.
@@ -238,6 +246,17 @@ fn put_seven<R: Wait>(rows: &Rows, rt: &R, pass: &mut Pass) -> bool
         said = put(rows, rt, pass, &Call::Put { key, value: key }) == Ok(None) && said;
     }
     said
+}
+
+// Puts 10 at the key 1, and then 20 at the key 2.
+fn put_two<R: Abort + Wait>(rows: &Rows, rt: &R, pass: &mut Pass)
+    requires { IsReadyTo rows.now 0 0 pass.old }
+    ensures { IsReadyTo rows.now 0 2 pass.new }
+{
+    let first = Call::Put { key: 1, value: 10 };
+    let second = Call::Put { key: 2, value: 20 };
+    is(rt, put(rows, rt, pass, &first), Ok(None));
+    is(rt, put(rows, rt, pass, &second), Ok(None));
 }
 
 fn stop_in_rotation<R: Abort + Wait>(
@@ -350,8 +369,73 @@ fn stop_at_root<R: Abort + Wait>(rows: &Rows, rt: &R, pass: &mut Pass, reader: &
     is(rt, remove(rows, rt, pass, 1), Some(5));
     let edge = take_root(rows, rt, pass).expect(rt, "no unlinking");
     unlink_root(rows, rt, pass, reader, &edge);
-    free_root(rows, rt, pass, edge.child.row);
+    free_root(rows, rt, pass, edge.child.row, true);
     is(rt, try_get(rows, reader, 1), Ok(None));
+}
+
+// A rotation at the root, by which row 1 goes down below row 2, with a read of the key 2 after the first of its five steps.
+fn rotate_root<R: Abort>(rows: &Rows, rt: &R, pass: &mut Pass, reader: &mut Pass, turn: &Turn)
+    requires table { IsOf pass.old rows.now }
+    requires reader { IsOf reader.old rows.now }
+    requires rows { AreWithin rows.now.rows turn.now }
+    requires turn { IsTurning pass.old.view turn.now }
+    requires owes { pass.old.view.debt ≡ no_debt }
+    requires count { count_of turn.now.row.stamp < last_count }
+    requires whole { pass.old.view.doing ≡ Nothing }
+    ensures reader { IsOf reader.new rows.now }
+    ensures turned { Rotates pass.old pass.new turn.now }
+{
+    let (parent_side, side, across) = (turn.parent_side, turn.side, turn.side.other());
+    let (upper, lower, upward) = (turn.parent.row, turn.row.row, turn.raised.row);
+    let (key, stamp) = (turn.row.key, turn.row.stamp);
+    let raised = turn.raised;
+    let middle = child_of(rows, pass, &raised, across);
+    mark_shrinking(
+        rows,
+        pass,
+        upper,
+        parent_side,
+        lower,
+        side,
+        upward,
+        stamp,
+        key,
+    );
+    let busy = Err(Busy {
+        left: 2,
+        entered: 3,
+    });
+    is(rt, try_get(rows, reader, 2), busy);
+    link_lowered(rows, pass, upper, parent_side, lower, side, upward, middle);
+    link_raised(rows, pass, upper, parent_side, lower, side, upward);
+    link_parent(rows, pass, upper, parent_side, lower, side, upward, key);
+    clear_shrinking(rows, pass, lower, stamp + 2);
+}
+
+// The row that is to go down is row 1, and row 2 comes up.
+fn turns_both<R: Abort>(rt: &R, turn: &Turn) {
+    let (lower, upward) = (turn.row.row, turn.raised.row);
+    is(rt, (lower.number(), upward.number()), (1, 2));
+}
+
+fn stop_in_rotation_at_root<R: Abort + Wait>(
+    rows: &Rows,
+    rt: &R,
+    pass: &mut Pass,
+    reader: &mut Pass,
+)
+    requires pass { IsReadyTo rows.now 0 2 pass.old }
+    requires reader { IsOf reader.old rows.now }
+{
+    enter(rows, rt, pass);
+    let turn = take_top_turn(rows, rt, pass).expect(rt, "no rotation");
+    turns_both(rt, &turn);
+    is(rt, get(rows, rt, reader, 2), Some(20));
+    is(rt, try_get(rows, reader, 2), Ok(Some(20)));
+    rotate_root(rows, rt, pass, reader, &turn);
+    free_top(rows, rt, pass, &turn);
+    is(rt, try_get(rows, reader, 2), Ok(Some(20)));
+    is(rt, try_get(rows, reader, 1), Ok(Some(10)));
 }
 
 #[test]
@@ -401,5 +485,15 @@ fn reads_meet_a_stopped_unlinking_of_the_root(rt: HostRuntime) -> Result<(), Fai
     let call = Call::Put { key: 1, value: 5 };
     is(&rt, put(&rows, &rt, &mut p, &call), Ok(None));
     stop_at_root(&rows, &rt, &mut p, &mut q);
+    Ok(())
+}
+
+#[test]
+fn a_read_meets_a_stopped_rotation_at_the_root(rt: HostRuntime) -> Result<(), Fail> {
+    let (rows, mut passes) = Rows::open(rt.alloc(), 4, 2)?;
+    let mut q = passes.pop().expect(&rt, "no second pass");
+    let mut p = passes.pop().expect(&rt, "no first pass");
+    put_two(&rows, &rt, &mut p);
+    stop_in_rotation_at_root(&rows, &rt, &mut p, &mut q);
     Ok(())
 }

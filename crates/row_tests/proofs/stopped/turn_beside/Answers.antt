@@ -17,4 +17,4 @@ pub free_and_end-requires-clause-turn : goal.free_and_end-requires-clause-turn
 free_and_end-requires-clause-turn g c =
     let a = c.enter.new.pass in let b = c.take_turn.new.pass in let t = c.expect-turn.result in
     let may : MayTurn c.args.rows.now a b t = search rules in
-    holds_turn c.args.rows.now a b c.rotate.new.pass false t t.parent.row t.row.row t.raised.row (ap (λ (k : Known). k.view.stage) c.enter.ensures.is) may.taken c.rotate.ensures.turned.keeps
+    holds_turn c.args.rows.now a b c.rotate.new.pass false t t.parent.row t.row.row t.raised.row (ap (λ (k : Known). k.view.stage) c.enter.ensures.is) may.taken may.some c.rotate.ensures.turned.keeps
