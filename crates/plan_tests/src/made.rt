@@ -1,5 +1,5 @@
 ghost use Rattle.std.specs.Prelude.{◌<◌, ◌≤◌};
-ghost use Rattle.snap_made.specs.Generator.{most_commands};
+ghost use Rattle.snap_made.specs.Generator.{most_made};
 
 use crate::asserts::is_text_at;
 use snap_made::make_script;
@@ -10,7 +10,7 @@ use std::process::Abort;
 // The first commands of a worker's script, and how many lines it has.
 fn shown(alloc: Global, commands: u32, workers: u32, worker: u32) -> Result<String, AllocError>
     requires worker { worker < workers }
-    requires few { commands ≤ most_commands }
+    requires few { commands ≤ most_made }
 {
     let mut text = String::new(alloc);
     let Ok(script) = make_script(alloc, commands, 7, workers, worker) else {
@@ -37,7 +37,7 @@ fn shown_command(alloc: Global, command: &Command) -> Result<String, AllocError>
 
 fn shows<R: Abort>(rt: &R, alloc: Global, commands: u32, workers: u32, worker: u32, want: &str)
     requires worker { worker < workers }
-    requires few { commands ≤ most_commands }
+    requires few { commands ≤ most_made }
 {
     let found = shown(alloc, commands, workers, worker).expect(rt, "no memory");
     is_text_at(rt, found.as_str(), want, "a made script");

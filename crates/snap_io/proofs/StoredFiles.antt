@@ -9,7 +9,7 @@ use Rattle.std.proofs.lemmas.Bool.{cases_Bool}
 use Rattle.std.proofs.lemmas.Map.{update_other}
 use Rattle.std.proofs.lemmas.Map.Text.{btree_map_updates_text}
 use Rattle.std.proofs.lemmas.Slice.Eq.{bytes_eq-Decides}
-use Rattle.snap_io.specs.MemShelf.{stored}
+use Rattle.snap_io.specs.MemShelf.{stored_files}
 use Rattle.snap_io.specs.Shelves.{Files, OfFile, Sets}
 
 differ : (a b : List ℕ) → a ≢ b → bytes_eq a b ≡ false
@@ -20,7 +20,7 @@ differ a b apart = elim (cases_Bool (bytes_eq a b)) [
 
 -- the file with that name has the new bytes, and the others keep theirs
 pub sets_file : (key name : List ℕ) (m n : BTreeMap (String Global) (Vec ℕ Global)) (file : Vec ℕ Global) → key ≡ name
-    → UpdatesBy string_cmp (λ k. slice_cmp nat_cmp key (string_bytes k)) m n (Some file) → Sets name file.items (stored m) (stored n)
+    → UpdatesBy string_cmp (λ k. slice_cmp nat_cmp key (string_bytes k)) m n (Some file) → Sets name file.items (stored_files m) (stored_files n)
 sets_file key name m n file same updates = (
   (λ other apart.
       let differs = differ key other (λ e. apart (sym e ∙ same)) in
@@ -41,14 +41,14 @@ module _ (name : List ℕ) (m n : BTreeMap (String Global) (Vec ℕ Global)) (ol
   -- a file that is there takes more bytes, where the memory for them was found
   pub grown_file : get_by_text m name ≡ Some old → UpdatesBy string_cmp (λ k. slice_cmp nat_cmp name (string_bytes k)) m n (Some new)
       → (added : Result (Unit {0}) AllocError) → new.items ≡ (if is_ok added then old.items ++ bytes else old.items)
-      → OnOk added (OfFile (stored m name) (λ held. Sets name (held ++ bytes) (stored m) (stored n)))
+      → OnOk added (OfFile (stored_files m name) (λ held. Sets name (held ++ bytes) (stored_files m) (stored_files n)))
   grown_file there updates (Ok _) items = rw there (rw (← items) (sets_file name name m n new refl updates))
   grown_file there updates (Err _) items = tt
 
   -- and else no file changes
   pub kept_file : get_by_text m name ≡ Some old → UpdatesBy string_cmp (λ k. slice_cmp nat_cmp name (string_bytes k)) m n (Some new)
       → (added : Result (Unit {0}) AllocError) → new.items ≡ (if is_ok added then old.items ++ bytes else old.items)
-      → OnErr added (stored n ≡ stored m)
+      → OnErr added (stored_files n ≡ stored_files m)
   kept_file there updates (Ok _) items = tt
   kept_file there updates (Err _) items =
-      same_file name old.items (stored m) (stored n) (ap (option_map (λ f. f.items)) there) (rw (← items) (sets_file name name m n new refl updates))
+      same_file name old.items (stored_files m) (stored_files n) (ap (option_map (λ f. f.items)) there) (rw (← items) (sets_file name name m n new refl updates))

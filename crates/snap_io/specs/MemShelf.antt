@@ -11,12 +11,12 @@ use Rattle.snap_io.specs.declared.mem_shelf.ShelfOp.{ShelfOp}
 use Rattle.snap_io.specs.declared.mem_shelf.ShelfOp.TheVariants.{Size, Read, Create, Append}
 
 -- the files that a map from texts to bytes stores
-abbrev pub stored : BTreeMap (String Global) (Vec ℕ Global) → Files
-stored held name = option_map (λ bytes. bytes.items) (get_by_text held name)
+abbrev pub stored_files : BTreeMap (String Global) (Vec ℕ Global) → Files
+stored_files held name = option_map (λ bytes. bytes.items) (get_by_text held name)
 
 -- the files
-abbrev pub files_of : MemShelf → Files
-files_of shelf = stored shelf.held
+abbrev pub held_files : MemShelf → Files
+held_files shelf = stored_files shelf.held
 
 -- the calls of each kind, and those that fail
 abbrev pub plans_of : MemShelf → Plans

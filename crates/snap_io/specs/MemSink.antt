@@ -8,8 +8,8 @@ abbrev pub bytes_of : MemSink → List ℕ
 bytes_of sink = sink.held.items
 
 -- how often a put has failed
-abbrev pub faults_of : MemSink → ℕ
-faults_of sink = sink.count
+abbrev pub put_faults_of : MemSink → ℕ
+put_faults_of sink = sink.count
 
 -- the puts made, and those that fail
 abbrev pub plan_of : MemSink → Planned

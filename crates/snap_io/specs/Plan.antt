@@ -17,8 +17,8 @@ abbrev pub with_number : ℕ → Planned → Planned
 with_number n plan = record plan { failing = plan.failing ++ n ∷ [] }
 
 -- one more call was made
-abbrev pub after_call : Planned → Planned
-after_call plan = record plan { made = raised plan.made }
+abbrev pub with_call : Planned → Planned
+with_call plan = record plan { made = raised plan.made }
 
 -- the call that comes next fails
 abbrev pub fails_next : Planned → Bool

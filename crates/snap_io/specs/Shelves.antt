@@ -1,4 +1,5 @@
--- What a shelf holds, and what each call does to it. A shelf need not tell its files: then nothing is said of them.
+-- What a shelf holds, and what each call does to it. A shelf need not tell its files: then nothing
+-- is said of them.
 use Rattle.std.specs.Prelude.{◌≡◌, ◌≢◌, ◌⊎◌, ◌++◌, ◌≤◌, ℕ, List, [], Option, Some, None, Result, MatchResult, IfOk, ⊤, take, drop, length}
 
 -- each name's bytes, or None where no such file is there
@@ -37,29 +38,37 @@ OfFile (Some bytes) fact = fact bytes
 
 -- an answered size is the length of a file that is there
 abbrev pub Sizes : {E : Type 0} → Option Files → List ℕ → Result ℕ E → Type 0
-Sizes files name result = IfTold files (λ f. IfOk result (λ n. OfFile (f name) (λ bytes. n ≡ length bytes)))
+Sizes files name result =
+    IfTold files (λ f. IfOk result (λ n. OfFile (f name) (λ bytes. n ≡ length bytes)))
 
--- the first n of the bytes read are those from a place on; there are none only at the end, or where none were asked
+-- the first n of the bytes read are those from a place on; there are none only at the end, or where
+-- none were asked
 abbrev pub Gives : List ℕ → ℕ → ℕ → List ℕ → Type 0
 Gives bytes at n into = (take n into ≡ take n (drop at bytes))
     × (n ≤ length (drop at bytes))
     × (n ≡ 0 → (length into ≡ 0) ⊎ (length bytes ≤ at))
 
 -- an answered read gave bytes of a file that is there
-abbrev pub Reads : {E : Type 0} → Option Files → List ℕ → ℕ → Result ℕ E → List ℕ → Type 0
-Reads files name at result into = IfTold files (λ f. IfOk result (λ n. OfFile (f name) (λ bytes. Gives bytes at n into)))
+abbrev pub ReadsFrom : {E : Type 0} → Option Files → List ℕ → ℕ → Result ℕ E → List ℕ → Type 0
+ReadsFrom files name at result into =
+    IfTold files (λ f. IfOk result (λ n. OfFile (f name) (λ bytes. Gives bytes at n into)))
 
 -- the file is there and empty, or after a failure as before or empty
 abbrev pub Creates : {T E : Type 0} → List ℕ → Result T E → Files → Files → Type 0
 Creates name result old new = SameBut name old new
-    × MatchResult result (λ _. new name ≡ Some []) (λ _. (new name ≡ old name) ⊎ (new name ≡ Some []))
+    × MatchResult result (λ _. new name ≡ Some [])
+    (λ _. (new name ≡ old name) ⊎ (new name ≡ Some []))
 
--- a file has the bytes behind its own, or after a failure a prefix of them; an absent one is refused and stays absent
-abbrev pub Grows : {T E : Type 0} → List ℕ → Result T E → Option (List ℕ) → Option (List ℕ) → Type 0
-Grows bytes result None new = MatchResult result (λ _. ⊥) (λ _. new ≡ None)
-Grows bytes result (Some old) new =
-    MatchResult result (λ _. new ≡ Some (old ++ bytes)) (λ _. (k : ℕ) × (new ≡ Some (old ++ take k bytes)))
+-- a file has the bytes behind its own, or after a failure a prefix of them; an absent one is
+-- refused and stays absent
+abbrev pub GrowsBy : {T E : Type 0} → List ℕ → Result T E → Option (List ℕ) → Option (List ℕ)
+    → Type 0
+GrowsBy bytes result None new = MatchResult result (λ _. ⊥) (λ _. new ≡ None)
+GrowsBy bytes result (Some old) new =
+    MatchResult result (λ _. new ≡ Some (old ++ bytes))
+    (λ _. (k : ℕ) × (new ≡ Some (old ++ take k bytes)))
 
 -- the named file grows, and no other changes
 abbrev pub Appends : {T E : Type 0} → List ℕ → List ℕ → Result T E → Files → Files → Type 0
-Appends name bytes result old new = SameBut name old new × Grows bytes result (old name) (new name)
+Appends name bytes result old new =
+    SameBut name old new × GrowsBy bytes result (old name) (new name)

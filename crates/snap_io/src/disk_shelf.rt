@@ -1,3 +1,5 @@
+//! The shelf of a real run: files of the system. No contract can know what a disk does, so it tells only its counts of
+//! faults.
 ghost use Rattle.std.specs.Prelude.{◌≡◌, ◌≤◌, IfOk, None, length};
 
 use crate::{Failed, Shelf};

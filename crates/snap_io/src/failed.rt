@@ -1,3 +1,4 @@
+//! The one error of shelves and sinks. It carries no reason: the counts of faults say whether it came from outside.
 ghost use Rattle.std.specs.Prelude.{◌≡◌, ◌≤◌};
 ghost use Rattle.snap_io.specs.Causes.{raised};
 

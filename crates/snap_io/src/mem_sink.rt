@@ -1,7 +1,8 @@
+//! A sink in memory, which tells its bytes exactly, with calls that fail as planned.
 ghost use Rattle.std.specs.Prelude.{◌≡◌, [], Some, IsTrue, IsErr, OnOk, OnErr, is_err};
 ghost use Rattle.snap_io.specs.Causes.{HasCause, raised_if};
-ghost use Rattle.snap_io.specs.MemSink.{bytes_of, faults_of, plan_of};
-ghost use Rattle.snap_io.specs.Plan.{after_call, fails_next, no_plan, with_number};
+ghost use Rattle.snap_io.specs.MemSink.{bytes_of, put_faults_of, plan_of};
+ghost use Rattle.snap_io.specs.Plan.{with_call, fails_next, no_plan, with_number};
 ghost use Rattle.snap_io.specs.Sinks.{Puts};
 
 use crate::plan::Plan;
@@ -21,7 +22,7 @@ impl MemSink {
     /// An empty sink without faults, none of whose calls is to fail. Takes no memory.
     pub fn new(alloc: Global) -> MemSink
         ensures bytes { bytes_of result ≡ [] }
-        ensures faults { faults_of result ≡ 0 }
+        ensures faults { put_faults_of result ≡ 0 }
         ensures plan { plan_of result ≡ no_plan }
     {
         MemSink {
@@ -36,7 +37,7 @@ impl MemSink {
         ensures planned { OnOk result (plan_of self.new ≡ with_number n (plan_of self.old)) }
         ensures refused { OnErr result (plan_of self.new ≡ plan_of self.old) }
         ensures bytes { bytes_of self.new ≡ bytes_of self.old }
-        ensures faults { faults_of self.new ≡ faults_of self.old }
+        ensures faults { put_faults_of self.new ≡ put_faults_of self.old }
     {
         self.plan.fail(n)
     }
@@ -50,7 +51,7 @@ impl MemSink {
 
     /// How often a `put` has failed.
     pub fn faults(&self) -> u64
-        ensures { result ≡ faults_of self.now }
+        ensures { result ≡ put_faults_of self.now }
     {
         self.count
     }
@@ -58,21 +59,23 @@ impl MemSink {
 
 impl Sink for MemSink {
     ghost use Rattle.std.specs.Prelude.{Some};
-    ghost use Rattle.snap_io.specs.MemSink.{bytes_of, faults_of};
+    ghost use Rattle.snap_io.specs.MemSink.{bytes_of, put_faults_of};
 
     ghost written = { λ s. Some (bytes_of s) };
 
-    ghost faults = { λ s. faults_of s };
+    ghost faults = { λ s. put_faults_of s };
 
     /// A call that isn't set to fail does so only for want of memory. No failure adds a byte.
     fn put(&mut self, bytes: &[u8]) -> Result<(), Failed>
-        ensures bytes { Puts (Some (bytes_of self.old)) (Some (bytes_of self.new)) bytes.now result }
-        ensures cause { HasCause (faults_of self.old) (faults_of self.new) result }
+        ensures bytes { Puts (Some (bytes_of self.old))
+            (Some (bytes_of self.new)) bytes.now result }
+        ensures cause { HasCause (put_faults_of self.old) (put_faults_of self.new) result }
 
         // The plan is kept, and a failure is one fault that adds nothing.
         ensures planned { IsTrue (fails_next (plan_of self.old)) → IsErr result }
-        ensures counted { plan_of self.new ≡ after_call (plan_of self.old) }
-        ensures fault { faults_of self.new ≡ raised_if (is_err result) (faults_of self.old) }
+        ensures counted { plan_of self.new ≡ with_call (plan_of self.old) }
+        ensures fault { put_faults_of self.new
+            ≡ raised_if (is_err result) (put_faults_of self.old) }
         ensures kept { OnErr result (bytes_of self.new ≡ bytes_of self.old) }
     {
         if self.plan.call() {

@@ -1,5 +1,6 @@
+//! Planned failures: which calls of one kind a shelf or a sink in memory is to fail.
 ghost use Rattle.std.specs.Prelude.{◌≡◌, OnOk, OnErr};
-ghost use Rattle.snap_io.specs.Plan.{after_call, fails_next, no_plan, with_number};
+ghost use Rattle.snap_io.specs.Plan.{with_call, fails_next, no_plan, with_number};
 
 use snap_model::OutOfMemory;
 use std::alloc::Global;
@@ -41,7 +42,7 @@ impl Plan {
     /// Counts a call, and answers whether it is to fail.
     pub(crate) fn call(&mut self) -> bool
         ensures fails { result ≡ fails_next self.old }
-        ensures counted { self.new ≡ after_call self.old }
+        ensures counted { self.new ≡ with_call self.old }
     {
         self.made = self.made.saturating_add(1);
         self.failing.contains(&self.made)

@@ -1,6 +1,7 @@
+//! Files by name, as a trait: what a run may ask of the outside, and what each call does to files where they are told.
 ghost use Rattle.std.specs.Prelude.{◌≡◌, ◌≤◌, ℕ, Option, IfOk, length};
 ghost use Rattle.snap_io.specs.Causes.{HasCause, HasCauseOr};
-ghost use Rattle.snap_io.specs.Shelves.{Appends, Changes, Creates, Files, IsAbsent, Reads, Sizes};
+ghost use Rattle.snap_io.specs.Shelves.{Appends, Changes, Creates, Files, IsAbsent, ReadsFrom, Sizes};
 
 use crate::Failed;
 
@@ -22,16 +23,18 @@ pub trait Shelf {
     fn size(&mut self, name: &str) -> Result<u64, Failed>
         ensures length { Sizes (files self.old) name.now result }
         ensures files { files self.new ≡ files self.old }
-        ensures cause { HasCauseOr (IsAbsent (files self.old) name.now) (read_faults self.old) (read_faults self.new) result }
+        ensures cause { HasCauseOr (IsAbsent (files self.old) name.now) (read_faults self.old)
+            (read_faults self.new) result }
         ensures other { write_faults self.new ≡ write_faults self.old };
 
     /// Copies bytes of a file, from `at` on, to the front of `into`, and answers how many: 0 only at the file's end
     /// or where `into` is empty. An absent file is refused.
     fn read(&mut self, name: &str, at: u64, into: &mut [u8]) -> Result<usize, Failed>
         ensures bound { IfOk result (λ n. n ≤ length into.new) }
-        ensures bytes { Reads (files self.old) name.now at result into.new }
+        ensures bytes { ReadsFrom (files self.old) name.now at result into.new }
         ensures files { files self.new ≡ files self.old }
-        ensures cause { HasCauseOr (IsAbsent (files self.old) name.now) (read_faults self.old) (read_faults self.new) result }
+        ensures cause { HasCauseOr (IsAbsent (files self.old) name.now) (read_faults self.old)
+            (read_faults self.new) result }
         ensures other { write_faults self.new ≡ write_faults self.old };
 
     /// Makes the file, or empties the one that is there. After a failure it is as before, or empty.
@@ -42,7 +45,9 @@ pub trait Shelf {
 
     /// Adds the bytes to a file, or after a failure a prefix of them. An absent file is refused, and stays absent.
     fn append(&mut self, name: &str, bytes: &[u8]) -> Result<(), Failed>
-        ensures files { Changes (files self.old) (files self.new) (Appends name.now bytes.now result) }
-        ensures cause { HasCauseOr (IsAbsent (files self.old) name.now) (write_faults self.old) (write_faults self.new) result }
+        ensures files { Changes (files self.old) (files self.new)
+            (Appends name.now bytes.now result) }
+        ensures cause { HasCauseOr (IsAbsent (files self.old) name.now) (write_faults self.old)
+            (write_faults self.new) result }
         ensures other { read_faults self.new ≡ read_faults self.old };
 }

@@ -1,3 +1,4 @@
+//! A stream of bytes to the outside, as a trait: what a run prints.
 ghost use Rattle.std.specs.Prelude.{ℕ, List, Option};
 ghost use Rattle.snap_io.specs.Causes.{HasCause};
 ghost use Rattle.snap_io.specs.Sinks.{Puts};

@@ -1,3 +1,4 @@
+//! The sink of a real run: standard output. It tells only its count of faults.
 ghost use Rattle.std.specs.Prelude.{◌≡◌, None};
 
 use crate::{Failed, Sink};

@@ -1,3 +1,5 @@
+//! Turns of workers, as a trait: a place at which a test can hold a worker back. A real run holds nobody back.
+
 /// What a worker calls before each of its commands, so that a test can hold workers back.
 pub trait Turn {
     /// Workers are numbered from 0 by script, commands from 1. Nothing is promised but that it returns.

@@ -18,12 +18,16 @@ nth_number x (suc n) = number_after (nth_number x n)
 
 -- how many of the commands a worker draws
 abbrev pub share_of : ℕ → ℕ → ℕ → ℕ
-share_of commands workers worker = commands / workers + (if nat_lt worker (commands % workers) then 1 else 0)
+share_of commands workers worker =
+    commands / workers + (if nat_lt worker (commands % workers) then 1 else 0)
 
--- a worker's command of two numbers: of sixteen kinds nine put, three remove and four ask, and no key is another worker's
+-- a worker's command of two numbers: of sixteen kinds nine put, three remove and four ask, and no
+-- key is another worker's
 abbrev pub command_of_kind : ℕ → ℕ → ℕ → Command
 command_of_kind kind key value =
-    if nat_lt kind 9 then command.Put key value else if nat_lt kind 12 then command.Remove key else command.Get key
+    if nat_lt kind 9 then command.Put key value
+    else if nat_lt kind 12 then command.Remove key
+    else command.Get key
 
 abbrev pub key_of : ℕ → ℕ → ℕ → ℕ
 key_of workers worker number = number / 65_536 % 10_000 * workers + worker
@@ -58,14 +62,16 @@ lines_from n (c ∷ cs) = record { line = n; command = c } ∷ lines_from (n + 1
 
 -- the script that is made for a worker
 abbrev pub made_script : ℕ → ℕ → ℕ → ℕ → List Line
-made_script commands seed workers worker = lines_from 1 (first_commands seed workers worker (share_of commands workers worker))
+made_script commands seed workers worker =
+    lines_from 1 (first_commands seed workers worker (share_of commands workers worker))
 
--- the most commands of a run, and the lines of the script of so many for a worker alone: none has more
-abbrev pub most_commands : ℕ
-most_commands = 1_000_000
+-- the most commands of a run, and the lines of the script of so many for a worker alone: none has
+-- more
+abbrev pub most_made : ℕ
+most_made = 1_000_000
 
-abbrev pub most_lines : ℕ
-most_lines = most_commands + 3 * (most_commands / 10_000)
+abbrev pub most_made_lines : ℕ
+most_made_lines = most_made + 3 * (most_made / 10_000)
 
 -- the scripts of the first n of the workers, in their order
 unfoldable pub made_scripts : ℕ → ℕ → ℕ → ℕ → List (List Line)

@@ -1,8 +1,9 @@
+//! The generator: a sequence of numbers for each worker, and the command that each two of them draw.
 ghost use Rattle.std.specs.Prelude.{◌≡◌, ◌+◌, ◌*◌, ◌^◌, ◌<◌, ◌≤◌, All, [], ◌∷◌, ◌++◌, length, IfOk, OnOk};
 ghost use Rattle.snap_text.specs.Clones.{all_free};
 ghost use Rattle.snap_text.specs.Grammar.{HasValueInRange};
 ghost use Rattle.snap_text.specs.Uses.{AllUseSlots};
-ghost use Rattle.snap_made.specs.Generator.{census, census_after, command_of, first_number, key_of, lines_from, made_script, most_commands, most_lines, number_after, share_of};
+ghost use Rattle.snap_made.specs.Generator.{census, census_after, command_of, first_number, key_of, lines_from, made_script, most_made, most_made_lines, number_after, share_of};
 
 use snap_model::{Command, Key, Name, OutOfMemory};
 use snap_text::{Line, Script};
@@ -30,12 +31,12 @@ pub fn make_script(
     worker: u32,
 ) -> Result<Script, OutOfMemory>
     requires worker { worker < workers }
-    requires few { commands ≤ most_commands }
+    requires few { commands ≤ most_made }
     ensures script { IfOk result (λ script. script ≡ made_script commands seed workers worker) }
     // No command of it lacks a slot or a clone, and it has few lines.
     ensures uses { IfOk result (AllUseSlots all_free) }
     ensures in_range { IfOk result (All (λ line. HasValueInRange line.command)) }
-    ensures few { IfOk result (λ script. length script ≤ most_lines) }
+    ensures few { IfOk result (λ script. length script ≤ most_made_lines) }
 {
     let mut script = Script::new(alloc);
     let mut number = first_number(seed, worker);
@@ -51,7 +52,8 @@ pub fn make_script(
 // Counts all keys after every 10,000th command.
 fn add_census(alloc: Global, script: &mut Script, drawn: u32) -> Result<(), OutOfMemory>
     requires { length script.old < 4_294_967_290 }
-    ensures { OnOk result (script.new ≡ script.old ++ lines_from (length script.old + 1) (census_after drawn)) }
+    ensures { OnOk result
+        (script.new ≡ script.old ++ lines_from (length script.old + 1) (census_after drawn)) }
 {
     if !drawn.is_multiple_of(CENSUS_EVERY) {
         return Ok(());
@@ -73,7 +75,9 @@ fn add_census(alloc: Global, script: &mut Script, drawn: u32) -> Result<(), OutO
 // Adds a command in a line of its own.
 fn add(script: &mut Script, command: Command) -> Result<(), OutOfMemory>
     requires { length script.old < 4_294_967_295 }
-    ensures { OnOk result (script.new ≡ script.old ++ record { line = length script.old + 1; command = command } ∷ []) }
+    ensures { OnOk result
+        (script.new
+        ≡ script.old ++ record { line = length script.old + 1; command = command } ∷ []) }
 {
     let line = script.lines().len() as u32 + 1;
     script.add(Line { line, command })
@@ -82,7 +86,7 @@ fn add(script: &mut Script, command: Command) -> Result<(), OutOfMemory>
 // How many of the commands the worker draws.
 fn share_of(commands: u32, workers: u32, worker: u32) -> u32
     requires worker { worker < workers }
-    requires few { commands ≤ most_commands }
+    requires few { commands ≤ most_made }
     ensures share { result ≡ share_of commands workers worker }
     ensures few { result ≤ 1_000_001 }
 {

@@ -1,4 +1,5 @@
--- A sorted map: pairs of a key and a value whose keys strictly rise, and the answers that are read off it.
+-- A sorted map: pairs of a key and a value whose keys strictly rise, and the answers that are read
+-- off it.
 use Rattle.std.specs.Prelude.{◌<◌, ℕ, ◌==◌, ◌&&◌, nat_lt, nat_le, not, List, [], ◌∷◌, ◌++◌, Option, Some, None, AllPairs, filter, length, if◌then◌else◌}
 
 abbrev pub Pairs : Type 0

@@ -1,3 +1,5 @@
+//! Keys, the calls that change a map, and the entries of its history. Every contract on a table speaks of these.
+
 /// A key of a map: any number of 64 bits.
 pub type Key = u64;
 

@@ -1,3 +1,4 @@
+//! The commands of a script and the replies to them, as values: texts are read into these, and sessions run them.
 mod debug;
 
 use crate::{Key, Name};

@@ -1,3 +1,4 @@
+//! Want of memory: the one error of calls that fail for nothing else.
 use std::alloc::{AllocError, AllocFailed};
 use std::error::Error;
 use std::fmt;

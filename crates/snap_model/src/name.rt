@@ -1,3 +1,4 @@
+//! Names of tables, clones and files, which own their text.
 ghost use Rattle.std.specs.Prelude.{◌≡◌, ◌↔◌, ℕ, List, IfOk, IsTrue, string_bytes};
 
 use crate::OutOfMemory;

@@ -1,3 +1,4 @@
+//! A plain sorted map, one list of pairs: what the concurrent map is measured and tested against.
 ghost use Rattle.std.specs.Prelude.{◌≡◌, ◌↔◌, [], IsTrue, length, ℕ, IfOk, IfErr, IsSome, IsOk, OnErr, nat_lt, nat_le};
 ghost use Rattle.snap_model.specs.SortedMap.{Pairs, IsSortedMap, at, after_put, after_remove, first_pair, last_pair, range, count, floor, lower, ceiling, higher};
 ghost use Rattle.snap_model.specs.Places.{IsFoundAt, IsGapAt, IsCutAt};

@@ -16,7 +16,7 @@ use Rattle.snap_plan.specs.declared.plan.Plan.{Plan}
 use Rattle.snap_plan.specs.declared.stop.Stop.{Stop}
 use Rattle.snap_plan.specs.declared.stop.Stop.TheVariants as stop
 use Rattle.snap_plan.specs.Endings.{IsForJob, and_loads, checked_scripts, ending_of, ending_of_job, inputs_for, inputs_of, inputs_of_job, made_plan, plan_for, plan_of_scripts, replies_for, within_limits, workers_for}
-use Rattle.snap_plan.specs.Inputs.{and_then, loads_in, scripts_in}
+use Rattle.snap_plan.specs.Inputs.{unless_stopped, loads_in, scripts_in}
 use Rattle.snap_plan.specs.Needs.{all_commands, among, loads_named, passed_in, tables_named, unless_passed}
 use Rattle.snap_plan.specs.Stops.{IsPastWords, IsRefusedBy, StopsBy, stop_of_words}
 use Rattle.snap_plan.proofs.Made.{length-made_scripts}
@@ -64,10 +64,10 @@ plan_with rows last names scripts loads = record {
 }
 
 abbrev behind_scripts : ℕ → Option (List ℕ) → List (List ℕ) → Files → List (List Line) → Result Plan Stop
-behind_scripts rows last names f scripts = and_then (loads_in f (loads_named (all_commands scripts))) (λ loads. Ok (plan_with rows last names scripts loads))
+behind_scripts rows last names f scripts = unless_stopped (loads_in f (loads_named (all_commands scripts))) (λ loads. Ok (plan_with rows last names scripts loads))
 
 checked_by : (last : Option (List ℕ)) (names : List (List ℕ)) (f : Files) (scripts : List (List Line)) → scripts_in f names ≡ Ok scripts → checked_scripts names last f ≡ unless_passed scripts (passed_in (outputs names last) names scripts)
-checked_by last names f scripts read = ap (λ r. and_then r (within_limits names last)) read
+checked_by last names f scripts read = ap (λ r. unless_stopped r (within_limits names last)) read
 
 among_first : (names more : List (List ℕ)) (file : List ℕ) → among names file ≡ true → among (names ++ more) file ≡ true
 among_first names more file is = list_any-append _ names more ∙ ap (λ b. b || among more file) is
@@ -89,14 +89,14 @@ among_inputs last names f file there = of_scripts (checked_scripts names last f)
 pub scripts_lift : (rows : ℕ) (last : Option (List ℕ)) (names : List (List ℕ)) (files : Option Files) → IfTold files (λ f. Lifts (scripts_in f names) (plan_of_scripts rows last names f) names (inputs_for last (Scripts names) f))
 scripts_lift rows last names None = tt
 scripts_lift rows last names (Some f) = (
-  λ s stopped. ap (λ r. and_then (and_then r (within_limits names last)) (behind_scripts rows last names f)) stopped,
+  λ s stopped. ap (λ r. unless_stopped (unless_stopped r (within_limits names last)) (behind_scripts rows last names f)) stopped,
   λ file there. among_inputs last names f file there,
 )
 
 pub limits_lift : (rows : ℕ) (last : Option (List ℕ)) (names : List (List ℕ)) (files : Option Files) (scripts : List (List Line)) → IfTold files (λ f. scripts_in f names ≡ Ok scripts)
     → IfTold files (λ f. (s : Stop) → unless_passed scripts (passed_in (outputs names last) names scripts) ≡ Err s → plan_of_scripts rows last names f ≡ Err s)
 limits_lift rows last names None scripts read = tt
-limits_lift rows last names (Some f) scripts read = λ s stopped. ap (λ r. and_then r (behind_scripts rows last names f)) (checked_by last names f scripts read ∙ stopped)
+limits_lift rows last names (Some f) scripts read = λ s stopped. ap (λ r. unless_stopped r (behind_scripts rows last names f)) (checked_by last names f scripts read ∙ stopped)
 
 checked_as : (last : Option (List ℕ)) (names : List (List ℕ)) (f : Files) (scripts : List (List Line)) → scripts_in f names ≡ Ok scripts → passed_in (outputs names last) names scripts ≡ None → checked_scripts names last f ≡ Ok scripts
 checked_as last names f scripts read none = checked_by last names f scripts read ∙ ap (unless_passed scripts) none
@@ -106,8 +106,8 @@ pub loads_lift : (rows : ℕ) (last : Option (List ℕ)) (names : List (List ℕ
     → IfTold files (λ f. Lifts (loads_in f loads) (plan_of_scripts rows last names f) loads (inputs_for last (Scripts names) f))
 loads_lift rows last names None scripts loads read none named = tt
 loads_lift rows last names (Some f) scripts loads read none named = (
-  λ s stopped. ap (λ r. and_then r (behind_scripts rows last names f)) (checked_as last names f scripts read none)
-      ∙ ap (λ r. and_then r (λ found. Ok (plan_with rows last names scripts found))) (ap (loads_in f) (sym named) ∙ stopped),
+  λ s stopped. ap (λ r. unless_stopped r (behind_scripts rows last names f)) (checked_as last names f scripts read none)
+      ∙ ap (λ r. unless_stopped r (λ found. Ok (plan_with rows last names scripts found))) (ap (loads_in f) (sym named) ∙ stopped),
   λ file there. ap (λ r. among (and_loads names r) file) (checked_as last names f scripts read none)
       ∙ among_behind names (loads_named (all_commands scripts)) file (ap (λ ns. among ns file) (sym named) ∙ there),
 )
@@ -117,5 +117,5 @@ pub planned : (rows : ℕ) (last : Option (List ℕ)) (names : List (List ℕ)) 
     → IfTold files (λ f. plan_of_scripts rows last names f ≡ Ok plan)
 planned rows last names None scripts named loads plan read none is there made = tt
 planned rows last names (Some f) scripts named loads plan read none is there made =
-    ap (λ r. and_then r (behind_scripts rows last names f)) (checked_as last names f scripts read none)
-    ∙ ap (λ r. and_then r (λ found. Ok (plan_with rows last names scripts found))) (ap (loads_in f) (sym is) ∙ there) ∙ ap Ok (sym made)
+    ap (λ r. unless_stopped r (behind_scripts rows last names f)) (checked_as last names f scripts read none)
+    ∙ ap (λ r. unless_stopped r (λ found. Ok (plan_with rows last names scripts found))) (ap (loads_in f) (sym is) ∙ there) ∙ ap Ok (sym made)

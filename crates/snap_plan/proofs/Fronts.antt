@@ -3,7 +3,7 @@ use Rattle.std.proofs.Common.{◌≡◌, ◌<◌, ◌≤◌, ◌+◌, ℕ, List,
 use Rattle.std.proofs.Math.Seq.{take-add}
 use Rattle.std.proofs.lemmas.List.{length-take-le, take_all}
 use Rattle.snap_io.specs.declared.failed.Failed.{Failed}
-use Rattle.snap_io.specs.Shelves.{Files, OfFile, Gives, Reads, Sizes}
+use Rattle.snap_io.specs.Shelves.{Files, OfFile, Gives, ReadsFrom, Sizes}
 use Rattle.snap_plan.specs.Reading.{IsFrontOf, IsFront, IsWhole}
 
 -- nothing is the front of a file of which the size was told
@@ -25,7 +25,7 @@ front_whole (Some f) name bytes size sizes front long = of_file (f name) sizes f
     of_file (Some file) h front = ap Some (sym (front.0 ∙ take_all (length bytes) file (omega (arith, h, long))))
 
 -- a piece that was read behind a front makes a longer front
-pub front_grows : (files : Option Files) (name bytes into : List ℕ) (n : ℕ) → IsFront files name bytes → Reads {E = Failed} files name (length bytes) (Ok n) into → IsFront files name (bytes ++ take n into)
+pub front_grows : (files : Option Files) (name bytes into : List ℕ) (n : ℕ) → IsFront files name bytes → ReadsFrom {E = Failed} files name (length bytes) (Ok n) into → IsFront files name (bytes ++ take n into)
 front_grows None name bytes into n front reads = tt
 front_grows (Some f) name bytes into n front reads = of_file (f name) front reads
   where
@@ -40,7 +40,7 @@ front_grows (Some f) name bytes into n front reads = of_file (f name) front read
         )
 
 -- where a read into a piece with room gave nothing, the front is the whole
-pub front_ends : (files : Option Files) (name bytes into : List ℕ) → IsFront files name bytes → Reads {E = Failed} files name (length bytes) (Ok 0) into → 0 < length into → IsWhole files name bytes
+pub front_ends : (files : Option Files) (name bytes into : List ℕ) → IsFront files name bytes → ReadsFrom {E = Failed} files name (length bytes) (Ok 0) into → 0 < length into → IsWhole files name bytes
 front_ends None name bytes into front reads room = tt
 front_ends (Some f) name bytes into front reads room = of_file (f name) front reads
   where

@@ -12,7 +12,7 @@ use Rattle.snap_plan.specs.declared.stop.Stop.{Stop}
 use Rattle.snap_plan.specs.declared.stop.Stop.TheVariants as stop
 use Rattle.snap_plan.specs.Reading.{IsRead}
 use Rattle.snap_plan.specs.Needs.{among}
-use Rattle.snap_plan.specs.Inputs.{Input, and_then, first_missing, input_of, inputs_in, meanings, unless_longer, unless_missing, with_meaning}
+use Rattle.snap_plan.specs.Inputs.{Input, unless_stopped, first_missing, input_of, inputs_in, meanings, unless_longer, unless_missing, with_meaning}
 use Rattle.snap_plan.specs.Stops.{IsUnread, StopsBy}
 use Rattle.snap_plan.proofs.Stopping.{memory_stops}
 
@@ -99,7 +99,7 @@ module _ {A : Type 0} (meaning : Input → Result A Stop) where
       ap (meanings meaning) (take_more inputs i input within ∙ ap (λ (y : Input). take i inputs ++ y ∷ []) (sym is))
       ∙ fold-append (with_meaning meaning) (Ok []) (take i inputs) (input ∷ [])
       ∙ ap (λ (r : Result (List A) Stop). with_meaning meaning r input) was
-      ∙ ap (λ (r : Result A Stop). and_then r (λ y. Ok (xs ++ y ∷ []))) means
+      ∙ ap (λ (r : Result A Stop). unless_stopped r (λ y. Ok (xs ++ y ∷ []))) means
 
   after_stop : (inputs : List Input) (s : Stop) → (let stopped : Result (List A) Stop = Err s in fold (with_meaning meaning) stopped inputs ≡ stopped)
   after_stop [] s = refl
@@ -112,7 +112,7 @@ module _ {A : Type 0} (meaning : Input → Result A Stop) where
       ∙ fold-append (with_meaning meaning) (Ok []) (take i inputs) (drop i inputs)
       ∙ ap (λ (r : Result (List A) Stop). fold (with_meaning meaning) r (drop i inputs)) was
       ∙ ap (λ (ys : List Input). fold (with_meaning meaning) (Ok xs) ys) (drop_more inputs i input within ∙ ap (λ (y : Input). y ∷ drop (i + 1) inputs) (sym is))
-      ∙ ap (λ (r : Result A Stop). fold (with_meaning meaning) (and_then r (λ y. Ok (xs ++ y ∷ []))) (drop (i + 1) inputs)) means
+      ∙ ap (λ (r : Result A Stop). fold (with_meaning meaning) (unless_stopped r (λ y. Ok (xs ++ y ∷ []))) (drop (i + 1) inputs)) means
       ∙ after_stop (drop (i + 1) inputs) s
 
   pub meanings_whole : (inputs : List Input) (i : ℕ) (xs : List A) → meanings meaning (take i inputs) ≡ Ok xs → length inputs ≤ i → meanings meaning inputs ≡ Ok xs

@@ -10,7 +10,7 @@ use Rattle.snap_text.specs.Grammar.{HasValueInRange}
 use Rattle.snap_text.specs.LoadFiles.{Loads}
 use Rattle.snap_text.specs.Uses.{AllUseSlots}
 use Rattle.snap_text.specs.declared.script.Line.{Line}
-use Rattle.snap_made.specs.Generator.{census, census_after, command_of_kind, first_commands, first_number, key_of, lines_from, made_script, made_scripts, most_lines, nth_command, nth_number, share_of}
+use Rattle.snap_made.specs.Generator.{census, census_after, command_of_kind, first_commands, first_number, key_of, lines_from, made_script, made_scripts, most_made_lines, nth_command, nth_number, share_of}
 use Rattle.snap_plan.specs.declared.plan.Plan.{Plan}
 use Rattle.snap_plan.specs.Endings.{made_plan}
 use Rattle.snap_plan.specs.Needs.{AllNew, all_commands, commands_of, export_in, load_in, main_table, table_in, tables_named, with_name}
@@ -96,7 +96,7 @@ unfolding made_scripts
 made_more commands seed workers n scripts more script is made added =
     added ∙ ap₂ (λ (ss : List (List Line)) (s : List Line). ss ++ s ∷ []) is made ∙ ap (made_scripts commands seed workers) (sym (add-one n))
 
-pub made_fits : (commands seed workers worker : ℕ) (script : List Line) → script ≡ made_script commands seed workers worker → AllUseSlots all_free script → All (λ (line : Line). HasValueInRange line.command) script → length script ≤ most_lines
+pub made_fits : (commands seed workers worker : ℕ) (script : List Line) → script ≡ made_script commands seed workers worker → AllUseSlots all_free script → All (λ (line : Line). HasValueInRange line.command) script → length script ≤ most_made_lines
     → IsScript script
 made_fits commands seed workers worker script is uses in_range few = record {
   from = inr (record { commands = commands; seed = seed; workers = workers; worker = worker; is = is });

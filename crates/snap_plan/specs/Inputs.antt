@@ -1,5 +1,6 @@
--- What a run reads: its scripts, and the load files that they name. Of files that are read together all are read
--- before any is looked into; so the first that isn't there stops, and then the first that is refused.
+-- What a run reads: its scripts, and the load files that they name. Of files that are read together
+-- all are read before any is looked into; so the first that isn't there stops, and then the first
+-- that is refused.
 use Rattle.std.specs.Prelude.{ℕ, nat_lt, List, [], ◌∷◌, ◌++◌, Option, Some, None, Result, Ok, Err, find, fold, is_none, length, map, if◌then◌else◌}
 use Rattle.snap_io.specs.Shelves.{Files}
 use Rattle.snap_text.specs.LoadFiles.{Loads}
@@ -14,9 +15,9 @@ use Rattle.snap_plan.specs.declared.stop.Stop.{Stop}
 use Rattle.snap_plan.specs.declared.stop.Stop.TheVariants as stop
 
 -- what follows where nothing stopped
-abbrev pub and_then : {A B : Type 0} → Result A Stop → (A → Result B Stop) → Result B Stop
-and_then (Ok x) f = f x
-and_then (Err stop) f = Err stop
+abbrev pub unless_stopped : {A B : Type 0} → Result A Stop → (A → Result B Stop) → Result B Stop
+unless_stopped (Ok x) f = f x
+unless_stopped (Err stop) f = Err stop
 
 -- a file that was read: its name, and its bytes unless it is too long
 abbrev pub Input : Type 0
@@ -38,11 +39,14 @@ unless_missing None found = Ok found
 unless_missing (Some name) found = Err (stop.Read name)
 
 abbrev pub inputs_in : ℕ → Files → List (List ℕ) → Result (List Input) Stop
-inputs_in most files names = unless_missing (first_missing files names) (map (input_of most files) names)
+inputs_in most files names =
+    unless_missing (first_missing files names) (map (input_of most files) names)
 
 -- what inputs mean, in their order; the first that is refused stops
-abbrev pub with_meaning : {A : Type 0} → (Input → Result A Stop) → Result (List A) Stop → Input → Result (List A) Stop
-with_meaning meaning found input = and_then found (λ xs. and_then (meaning input) (λ x. Ok (xs ++ x ∷ [])))
+abbrev pub with_meaning : {A : Type 0} → (Input → Result A Stop) → Result (List A) Stop → Input
+    → Result (List A) Stop
+with_meaning meaning found input =
+    unless_stopped found (λ xs. unless_stopped (meaning input) (λ x. Ok (xs ++ x ∷ [])))
 
 abbrev pub meanings : {A : Type 0} → (Input → Result A Stop) → List Input → Result (List A) Stop
 meanings meaning inputs = fold (with_meaning meaning) (Ok []) inputs
@@ -68,7 +72,8 @@ as_script (name, None) = Err (stop.LongScript name)
 as_script (name, Some bytes) = or_script_stop name (script_of bytes)
 
 -- an input as a load file: its name with its pairs, or the stop at it
-abbrev pub or_load_stop : List ℕ → Result (List (ℕ × ℕ)) PairsFault → Result (List ℕ × List (ℕ × ℕ)) Stop
+abbrev pub or_load_stop : List ℕ → Result (List (ℕ × ℕ)) PairsFault
+    → Result (List ℕ × List (ℕ × ℕ)) Stop
 or_load_stop name (Ok pairs) = Ok (name, pairs)
 or_load_stop name (Err fault) = Err (stop_of_load name fault)
 
@@ -78,7 +83,7 @@ as_load (name, Some bytes) = or_load_stop name (load_of bytes)
 
 -- the scripts and the load files of these names
 abbrev pub scripts_in : Files → List (List ℕ) → Result (List (List Line)) Stop
-scripts_in files names = and_then (inputs_in most_bytes files names) (meanings as_script)
+scripts_in files names = unless_stopped (inputs_in most_bytes files names) (meanings as_script)
 
 abbrev pub loads_in : Files → List (List ℕ) → Result Loads Stop
-loads_in files names = and_then (inputs_in most_load_bytes files names) (meanings as_load)
+loads_in files names = unless_stopped (inputs_in most_load_bytes files names) (meanings as_load)

@@ -1,4 +1,5 @@
--- What scripts need beside their commands: tables, load files, and files for their exports; and the limits on these.
+-- What scripts need beside their commands: tables, load files, and files for their exports; and the
+-- limits on these.
 use Rattle.std.specs.Prelude.{◌≡◌, ℕ, nat_lt, Bool, false, List, [], ◌∷◌, ◌++◌, Option, Some, None, Result, Ok, Err, length, map, flat_map, fold, filter_map, codes, bytes_eq, if◌then◌else◌}
 use Rattle.std.specs.List.{list_any}
 use Rattle.snap_model.specs.declared.command.Command.{Command}
@@ -51,19 +52,23 @@ main_table = codes "main"
 abbrev pub tables_named : List Command → List (List ℕ)
 tables_named cs = fold with_name (main_table ∷ []) (filter_map table_in cs)
 
--- the load files in the order in which they are first named, and the files for exports in their order
+-- the load files in the order in which they are first named, and the files for exports in their
+-- order
 abbrev pub loads_named : List Command → List (List ℕ)
 loads_named cs = fold with_name [] (filter_map load_in cs)
 
 abbrev pub exports_named : List Command → List (List ℕ)
 exports_named cs = filter_map export_in cs
 
--- the limit that a command passes, behind the commands before it, where files of these names are taken
+-- the limit that a command passes, behind the commands before it, where files of these names are
+-- taken
 abbrev pub limit_of : List (List ℕ) → List Command → Command → Option Limit
 limit_of taken before (command.Table name) =
-    if nat_lt most_tables (length (with_name (tables_named before) name)) then Some TooManyTables else None
+    if nat_lt most_tables (length (with_name (tables_named before) name)) then Some TooManyTables
+    else None
 limit_of taken before (command.Load file) =
-    if nat_lt most_loads (length (with_name (loads_named before) file)) then Some TooManyLoads else None
+    if nat_lt most_loads (length (with_name (loads_named before) file)) then Some TooManyLoads
+    else None
 limit_of taken before (command.Export slot lo hi file) =
     if among (taken ++ exports_named before) file then Some OutputTaken else None
 limit_of taken before _ = None
@@ -73,7 +78,8 @@ abbrev pub NamedLine : Type 0
 NamedLine = List ℕ × Line
 
 abbrev pub named_lines : List (List ℕ) → List (List Line) → List NamedLine
-named_lines (name ∷ names) (lines ∷ scripts) = map (λ line. (name, line)) lines ++ named_lines names scripts
+named_lines (name ∷ names) (lines ∷ scripts) =
+    map (λ line. (name, line)) lines ++ named_lines names scripts
 named_lines _ _ = []
 
 -- the stop at the first line that passes a limit, where these commands stand before the lines
@@ -84,7 +90,8 @@ stop_at at (Some limit) below = Some (stop.Limit at.0 at.1.line limit)
 abbrev pub passed_from : List (List ℕ) → List Command → List NamedLine → Option Stop
 passed_from taken before [] = None
 passed_from taken before (at ∷ below) =
-    stop_at at (limit_of taken before at.1.command) (passed_from taken (before ++ at.1.command ∷ []) below)
+    stop_at at (limit_of taken before at.1.command)
+    (passed_from taken (before ++ at.1.command ∷ []) below)
 
 -- the stop at the first line of the scripts that passes a limit
 unfoldable pub passed_in : List (List ℕ) → List (List ℕ) → List (List Line) → Option Stop

@@ -20,4 +20,5 @@ IsWhole files name bytes = IfTold files (λ f. f name ≡ Some bytes)
 
 -- they are the whole file, or there are none since it has more than so many
 abbrev pub IsRead : ℕ → Option Files → List ℕ → Option (List ℕ) → Type 0
-IsRead most files name bytes = IfTold files (λ f. OfFile (f name) (λ file. bytes ≡ unless_longer most (Some file)))
+IsRead most files name bytes =
+    IfTold files (λ f. OfFile (f name) (λ file. bytes ≡ unless_longer most (Some file)))

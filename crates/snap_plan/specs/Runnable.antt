@@ -8,7 +8,7 @@ use Rattle.snap_text.specs.Numbers.{FitsValue}
 use Rattle.snap_text.specs.Scripts.{script_of}
 use Rattle.snap_text.specs.Uses.{AllUseSlots}
 use Rattle.snap_text.specs.declared.script.Line.{Line}
-use Rattle.snap_made.specs.Generator.{made_script, most_lines}
+use Rattle.snap_made.specs.Generator.{made_script, most_made_lines}
 use Rattle.snap_words.specs.Words.{most_rows, most_scripts}
 use Rattle.snap_plan.specs.declared.plan.Plan.{Plan}
 use Rattle.snap_plan.specs.Needs.{AllNew, all_commands, exports_named, loads_named, most_loads, most_tables, tables_named}
@@ -18,7 +18,7 @@ pub record IsOfText (lines : List Line) : Type 0 where
   pub bytes : List ℕ
   pub is : script_of bytes ≡ Ok lines
 
-pub record IsMade (lines : List Line) : Type 0 where
+pub record IsMadeUp (lines : List Line) : Type 0 where
   pub commands : ℕ
   pub seed : ℕ
   pub workers : ℕ
@@ -27,10 +27,10 @@ pub record IsMade (lines : List Line) : Type 0 where
 
 -- a script: its clones, its values and its length fit
 pub record IsScript (lines : List Line) : Type 0 where
-  pub from : IsOfText lines ⊎ IsMade lines
+  pub from : IsOfText lines ⊎ IsMadeUp lines
   pub uses : AllUseSlots all_free lines
   pub in_range : All (λ line. HasValueInRange line.command) lines
-  pub few : length lines ≤ most_lines
+  pub few : length lines ≤ most_made_lines
 
 -- each pair of the load files has a value that a map can hold
 abbrev pub AllInRange : Loads → Type 0
@@ -39,7 +39,8 @@ AllInRange loads = All (λ file. All (λ pair. FitsValue pair.1) file.1) loads
 -- the files that a plan writes, in their order: the replies, the exports, and the final file
 abbrev pub files_written : Plan → List (List ℕ)
 files_written plan =
-    unwrap_or plan.replies [] ++ (exports_named (all_commands plan.scripts) ++ option_to_list plan.last)
+    unwrap_or plan.replies []
+    ++ (exports_named (all_commands plan.scripts) ++ option_to_list plan.last)
 
 pub record IsRunnable (plan : Plan) : Type 0 where
   pub some_scripts : 1 ≤ length plan.scripts

@@ -24,11 +24,12 @@ abbrev pub stop_of_words : WordsFault → Stop
 stop_of_words (words.Refused why) = stop.Words why
 stop_of_words words.Memory = stop.Memory
 
--- how a step was stopped that wants this, and reads files of these names: by what it wants, unless memory is wanting or
--- a read faulted
+-- how a step was stopped that wants this, and reads files of these names: by what it wants, unless
+-- memory is wanting or a read faulted
 abbrev pub IsStopOf : {A : Type 0} → Result A Stop → List (List ℕ) → Type 0 → Stop → Type 0
 IsStopOf wanted names read_fault stop.Memory = ⊤
-IsStopOf wanted names read_fault (stop.Read name) = (wanted ≡ Err (stop.Read name)) ⊎ read_fault × IsTrue (among names name)
+IsStopOf wanted names read_fault (stop.Read name) =
+    (wanted ≡ Err (stop.Read name)) ⊎ read_fault × IsTrue (among names name)
 IsStopOf wanted names read_fault other = wanted ≡ Err other
 
 -- where the files aren't told, a read stopped it only by a fault
@@ -36,9 +37,11 @@ abbrev pub IsBlindStop : Type 0 → Stop → Type 0
 IsBlindStop read_fault (stop.Read name) = read_fault
 IsBlindStop read_fault _ = ⊤
 
-abbrev pub StopsBy : {A : Type 0} → Option Files → (Files → Result A Stop) → (Files → List (List ℕ)) → Type 0 → Stop → Type 0
+abbrev pub StopsBy : {A : Type 0} → Option Files → (Files → Result A Stop) → (Files → List (List ℕ))
+    → Type 0 → Stop → Type 0
 StopsBy None wanted names read_fault stop = IsBlindStop read_fault stop
-StopsBy (Some files) wanted names read_fault stop = IsStopOf (wanted files) (names files) read_fault stop
+StopsBy (Some files) wanted names read_fault stop =
+    IsStopOf (wanted files) (names files) read_fault stop
 
 -- a file of this name isn't there, unless memory is wanting or a read faulted
 abbrev pub IsUnread : List ℕ → Option Files → Type 0 → Stop → Type 0

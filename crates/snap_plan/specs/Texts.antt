@@ -32,10 +32,12 @@ limit_name limit.TooManyLoads = codes "TooManyLoads"
 
 -- the text on a line of a script
 abbrev pub line_text : List ℕ → ℕ → List ℕ → List ℕ
-line_text name line what = codes "script " ++ name ++ codes " line " ++ decimal line ++ codes ": " ++ what ++ codes "\n"
+line_text name line what =
+    codes "script " ++ name ++ codes " line " ++ decimal line ++ codes ": " ++ what ++ codes "\n"
 
 abbrev pub record_text : List ℕ → ℕ → List ℕ
-record_text name number = codes "load " ++ name ++ codes " record " ++ decimal number ++ codes ": BadPair\n"
+record_text name number =
+    codes "load " ++ name ++ codes " record " ++ decimal number ++ codes ": BadPair\n"
 
 -- the text on a stop
 abbrev pub stop_text : Stop → List ℕ

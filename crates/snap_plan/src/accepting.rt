@@ -1,3 +1,4 @@
+//! The top of the crate: words lead to a plan, or to the first thing by which the run is stopped.
 ghost use Rattle.std.specs.Prelude.{◌≡◌, ◌≤◌, ◌++◌, [], false, Ok, IfOk, IfErr, IsErr, MatchResult, length, map};
 ghost use Rattle.std.specs.String.{string_bytes};
 ghost use Rattle.snap_io.specs.Causes.{Rose};
@@ -20,14 +21,21 @@ use std::alloc::Global;
 /// Reads the words, and then the scripts that they name and the load files that these name; or makes the scripts that
 /// they ask for, without a look at the shelf. No file is written.
 pub fn accept<S: Shelf>(alloc: Global, words: &[String], shelf: &mut S) -> Result<Plan, Stop>
-    ensures plan { IfOk result (λ plan. IfTold (S.files shelf.old) (λ f. ending_of (map string_bytes words.now) f ≡ Ok plan)) }
+    ensures plan { IfOk result
+        (λ plan. IfTold (S.files shelf.old)
+        (λ f. ending_of (map string_bytes words.now) f ≡ Ok plan)) }
     ensures asked { IfOk result (IsFor (job_of (map string_bytes words.now))) }
     ensures runnable { IfOk result IsRunnable }
 
     ensures words { IfErr result (IsRefusedBy (job_of (map string_bytes words.now))) }
     ensures words_refused { IsErr (job_of (map string_bytes words.now)) → IsOfWords result }
-    ensures stops { IfErr result (StopsBy (S.files shelf.old) (ending_of (map string_bytes words.now)) (inputs_of (map string_bytes words.now)) (Rose (S.read_faults shelf.old) (S.read_faults shelf.new))) }
-    ensures made { OfMade (job_of (map string_bytes words.now)) (λ made. (shelf.new ≡ shelf.old) × MatchResult result (λ plan. plan ≡ made) (λ stop. stop ≡ Stop.Memory)) }
+    ensures stops { IfErr result
+        (StopsBy (S.files shelf.old) (ending_of (map string_bytes words.now))
+        (inputs_of (map string_bytes words.now))
+        (Rose (S.read_faults shelf.old) (S.read_faults shelf.new))) }
+    ensures made { OfMade (job_of (map string_bytes words.now))
+        (λ made. (shelf.new ≡ shelf.old)
+        × MatchResult result (λ plan. plan ≡ made) (λ stop. stop ≡ Stop.Memory)) }
 
     ensures later { S.read_faults shelf.old ≤ S.read_faults shelf.new }
     ensures files { S.files shelf.new ≡ S.files shelf.old }
@@ -40,13 +48,19 @@ pub fn accept<S: Shelf>(alloc: Global, words: &[String], shelf: &mut S) -> Resul
 // The plan of a job.
 fn accept_job<S: Shelf>(alloc: Global, job: Job, shelf: &mut S) -> Result<Plan, Stop>
     requires { IsWithinLimits job }
-    ensures plan { IfOk result (λ plan. IfTold (S.files shelf.old) (λ f. plan_for job.rows job.last job.work f ≡ Ok plan)) }
+    ensures plan { IfOk result
+        (λ plan. IfTold (S.files shelf.old)
+        (λ f. plan_for job.rows job.last job.work f ≡ Ok plan)) }
     ensures asked { IfOk result (IsForJob job) }
     ensures runnable { IfOk result IsRunnable }
 
     ensures past_words { IfErr result IsPastWords }
-    ensures stops { IfErr result (StopsBy (S.files shelf.old) (plan_for job.rows job.last job.work) (inputs_for job.last job.work) (Rose (S.read_faults shelf.old) (S.read_faults shelf.new))) }
-    ensures made { OfMadeWork job.rows job.last job.work (λ made. (shelf.new ≡ shelf.old) × MatchResult result (λ plan. plan ≡ made) (λ stop. stop ≡ Stop.Memory)) }
+    ensures stops { IfErr result
+        (StopsBy (S.files shelf.old) (plan_for job.rows job.last job.work)
+        (inputs_for job.last job.work) (Rose (S.read_faults shelf.old) (S.read_faults shelf.new))) }
+    ensures made { OfMadeWork job.rows job.last job.work
+        (λ made. (shelf.new ≡ shelf.old)
+        × MatchResult result (λ plan. plan ≡ made) (λ stop. stop ≡ Stop.Memory)) }
 
     ensures later { S.read_faults shelf.old ≤ S.read_faults shelf.new }
     ensures files { S.files shelf.new ≡ S.files shelf.old }
@@ -76,12 +90,17 @@ fn accept_scripts<S: Shelf>(
     requires some_rows { 1 ≤ rows }
     requires few_rows { rows ≤ most_rows }
     requires outputs { has_twice (outputs names last) ≡ false }
-    ensures plan { IfOk result (λ plan. IfTold (S.files shelf.old) (λ f. plan_of_scripts rows last names f ≡ Ok plan)) }
-    ensures asked { IfOk result (λ plan. IsForJob (record { rows = rows; last = last; work = Work.Scripts names }) plan) }
+    ensures plan { IfOk result
+        (λ plan. IfTold (S.files shelf.old) (λ f. plan_of_scripts rows last names f ≡ Ok plan)) }
+    ensures asked { IfOk result
+        (λ plan. IsForJob (record { rows = rows; last = last; work = Work.Scripts names }) plan) }
     ensures runnable { IfOk result IsRunnable }
 
     ensures past_words { IfErr result IsPastWords }
-    ensures stops { IfErr result (StopsBy (S.files shelf.old) (plan_of_scripts rows last names) (inputs_for last (Work.Scripts names)) (Rose (S.read_faults shelf.old) (S.read_faults shelf.new))) }
+    ensures stops { IfErr result
+        (StopsBy (S.files shelf.old) (plan_of_scripts rows last names)
+        (inputs_for last (Work.Scripts names))
+        (Rose (S.read_faults shelf.old) (S.read_faults shelf.new))) }
 
     ensures later { S.read_faults shelf.old ≤ S.read_faults shelf.new }
     ensures files { S.files shelf.new ≡ S.files shelf.old }

@@ -1,3 +1,4 @@
+//! Scripts and load files, from the shelf to what they mean: all are read first, and then taken one after another.
 ghost use Rattle.std.specs.Prelude.{◌≡◌, ◌≢◌, ◌≤◌, Ok, All, AllPairs, IfOk, IfErr, length, map};
 ghost use Rattle.snap_io.specs.Causes.{Rose};
 ghost use Rattle.snap_io.specs.Shelves.{IfTold};
@@ -25,11 +26,14 @@ pub fn read_scripts<S: Shelf>(
     shelf: &mut S,
     names: &[Name],
 ) -> Result<ScriptList, Stop>
-    ensures scripts { IfOk result (λ scripts. IfTold (S.files shelf.old) (λ f. scripts_in f names.now ≡ Ok scripts)) }
+    ensures scripts { IfOk result
+        (λ scripts. IfTold (S.files shelf.old) (λ f. scripts_in f names.now ≡ Ok scripts)) }
     ensures each { IfOk result (λ scripts. length scripts ≡ length names.now) }
     ensures fit { IfOk result (All IsScript) }
     ensures past_words { IfErr result IsPastWords }
-    ensures stops { IfErr result (StopsBy (S.files shelf.old) (λ f. scripts_in f names.now) (λ f. names.now) (Rose (S.read_faults shelf.old) (S.read_faults shelf.new))) }
+    ensures stops { IfErr result
+        (StopsBy (S.files shelf.old) (λ f. scripts_in f names.now) (λ f. names.now)
+        (Rose (S.read_faults shelf.old) (S.read_faults shelf.new))) }
     ensures later { S.read_faults shelf.old ≤ S.read_faults shelf.new }
     ensures files { S.files shelf.new ≡ S.files shelf.old }
     ensures writes { S.write_faults shelf.new ≡ S.write_faults shelf.old }
@@ -41,11 +45,14 @@ pub fn read_scripts<S: Shelf>(
 /// Reads load files in their order, each once, and then parses them.
 pub fn read_loads<S: Shelf>(alloc: Global, shelf: &mut S, names: &[Name]) -> Result<Loads, Stop>
     requires { AllPairs (λ a b. a ≢ b) names.now }
-    ensures loads { IfOk result (λ loads. IfTold (S.files shelf.old) (λ f. loads_in f names.now ≡ Ok loads)) }
+    ensures loads { IfOk result
+        (λ loads. IfTold (S.files shelf.old) (λ f. loads_in f names.now ≡ Ok loads)) }
     ensures names { IfOk result (λ loads. map (λ file. file.0) loads ≡ names.now) }
     ensures in_range { IfOk result AllInRange }
     ensures past_words { IfErr result IsPastWords }
-    ensures stops { IfErr result (StopsBy (S.files shelf.old) (λ f. loads_in f names.now) (λ f. names.now) (Rose (S.read_faults shelf.old) (S.read_faults shelf.new))) }
+    ensures stops { IfErr result
+        (StopsBy (S.files shelf.old) (λ f. loads_in f names.now) (λ f. names.now)
+        (Rose (S.read_faults shelf.old) (S.read_faults shelf.new))) }
     ensures later { S.read_faults shelf.old ≤ S.read_faults shelf.new }
     ensures files { S.files shelf.new ≡ S.files shelf.old }
     ensures writes { S.write_faults shelf.new ≡ S.write_faults shelf.old }

@@ -1,5 +1,6 @@
+//! The plan of scripts that are made up, which needs no file.
 ghost use Rattle.std.specs.Prelude.{◌≡◌, ◌≤◌, All, IfOk};
-ghost use Rattle.snap_made.specs.Generator.{made_scripts, most_commands};
+ghost use Rattle.snap_made.specs.Generator.{made_scripts, most_made};
 ghost use Rattle.snap_words.specs.Words.{most_rows, most_workers};
 ghost use Rattle.snap_plan.specs.Endings.{made_plan};
 ghost use Rattle.snap_plan.specs.Runnable.{IsRunnable, IsScript};
@@ -20,7 +21,7 @@ pub fn make_plan(
     rows: u32,
     last: Option<Name>,
 ) -> Result<Plan, OutOfMemory>
-    requires commands { commands ≤ most_commands }
+    requires commands { commands ≤ most_made }
     requires some_workers { 1 ≤ workers }
     requires few_workers { workers ≤ most_workers }
     requires some_rows { 1 ≤ rows }
@@ -46,8 +47,9 @@ fn make_scripts(
     seed: u32,
     workers: u32,
 ) -> Result<ScriptList, OutOfMemory>
-    requires { commands ≤ most_commands }
-    ensures scripts { IfOk result (λ scripts. scripts ≡ made_scripts commands seed workers workers) }
+    requires { commands ≤ most_made }
+    ensures scripts { IfOk result
+        (λ scripts. scripts ≡ made_scripts commands seed workers workers) }
     ensures fit { IfOk result (All IsScript) }
 {
     let mut scripts = ScriptList::new(alloc);

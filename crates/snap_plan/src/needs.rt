@@ -1,3 +1,4 @@
+//! What all scripts need together, tables and load files, and the first line that passes a limit of the run.
 ghost use Rattle.std.specs.Prelude.{◌≡◌, ◌⊎◌, ◌||◌, ◌++◌, ℕ, List, [], ◌∷◌, None, false, IfOk, IfErr, OnOk, bytes_eq, length, not};
 ghost use Rattle.std.specs.BTreeSet.{contains_text};
 ghost use Rattle.snap_model.specs.declared.command.Command.{Command};
@@ -57,7 +58,8 @@ pub fn needs_of(
     ensures loads { IfOk result (λ needs. needs.loads ≡ loads_named (all_commands scripts.now)) }
     ensures within { OnOk result (passed_in taken.now names.now scripts.now ≡ None) }
     ensures past_reading { IfErr result IsPastReading }
-    ensures stops { IfErr result (IsStopBy (unless_passed scripts.now (passed_in taken.now names.now scripts.now))) }
+    ensures stops { IfErr result
+        (IsStopBy (unless_passed scripts.now (passed_in taken.now names.now scripts.now))) }
 {
     let mut walk = Walk::begin(alloc, taken)?;
     for (place, script) in scripts.iter().enumerate() {
@@ -116,8 +118,12 @@ impl Walk {
 
     // Takes the lines of a script in, unless one of them passes a limit: the first is answered.
     fn take_script(&mut self, alloc: Global, lines: &[Line]) -> Result<Option<Passed>, OutOfMemory>
-        ensures passed { IfOk result (λ passed. (taken : List (List ℕ)) (before : List Command) → HasNeeds taken before self.old → PassesAt taken before lines.now passed) }
-        ensures needs { IfOk result (λ passed. (taken : List (List ℕ)) (before : List Command) → HasNeeds taken before self.old → AddsNeeds taken before lines.now self.new passed) }
+        ensures passed { IfOk result
+            (λ passed. (taken : List (List ℕ)) (before : List Command)
+            → HasNeeds taken before self.old → PassesAt taken before lines.now passed) }
+        ensures needs { IfOk result
+            (λ passed. (taken : List (List ℕ)) (before : List Command)
+            → HasNeeds taken before self.old → AddsNeeds taken before lines.now self.new passed) }
     {
         for line in lines {
             if let Some(limit) = self.take_command(alloc, &line.command)? {
@@ -136,8 +142,12 @@ impl Walk {
         alloc: Global,
         command: &Command,
     ) -> Result<Option<Limit>, OutOfMemory>
-        ensures limit { IfOk result (λ limit. (taken : List (List ℕ)) (before : List Command) → HasNeeds taken before self.old → limit ≡ limit_of taken before command.now) }
-        ensures needs { OnOk result ((taken : List (List ℕ)) (before : List Command) → HasNeeds taken before self.old → HasNeeds taken (before ++ command.now ∷ []) self.new) }
+        ensures limit { IfOk result
+            (λ limit. (taken : List (List ℕ)) (before : List Command)
+            → HasNeeds taken before self.old → limit ≡ limit_of taken before command.now) }
+        ensures needs { OnOk result
+            ((taken : List (List ℕ)) (before : List Command) → HasNeeds taken before self.old
+            → HasNeeds taken (before ++ command.now ∷ []) self.new) }
     {
         match command {
             Command::Table { name } => {
@@ -182,7 +192,8 @@ struct Taken {
 
 impl Taken {
     fn of(alloc: Global, files: &[Name]) -> Result<Taken, OutOfMemory>
-        ensures { IfOk result (λ taken. (name : List ℕ) → contains_text taken.names name ≡ among files.now name) }
+        ensures { IfOk result
+            (λ taken. (name : List ℕ) → contains_text taken.names name ≡ among files.now name) }
     {
         let mut taken = Taken {
             names: BTreeSet::new(alloc),
@@ -195,8 +206,12 @@ impl Taken {
 
     // Adds a file, and answers whether it is new.
     fn add(&mut self, alloc: Global, file: &Name) -> Result<bool, OutOfMemory>
-        ensures is_new { IfOk result (λ is_new. is_new ≡ not (contains_text self.old.names file.now)) }
-        ensures names { OnOk result ((name : List ℕ) → contains_text self.new.names name ≡ (contains_text self.old.names name || bytes_eq file.now name)) }
+        ensures is_new { IfOk result
+            (λ is_new. is_new ≡ not (contains_text self.old.names file.now)) }
+        ensures names { OnOk result
+            ((name : List ℕ)
+            → contains_text self.new.names name
+            ≡ (contains_text self.old.names name || bytes_eq file.now name)) }
     {
         let file = String::from_str(alloc, file.text())?;
         Ok(self.names.insert(file)?)

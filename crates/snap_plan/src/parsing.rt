@@ -1,3 +1,4 @@
+//! From the bytes of files to scripts and pairs, or to the stop at the first that is refused.
 ghost use Rattle.std.specs.Prelude.{◌≡◌, ◌≢◌, ◌≤◌, Ok, All, AllPairs, IfOk, IfErr, length, map};
 ghost use Rattle.snap_text.specs.LoadFiles.{HasFile};
 ghost use Rattle.snap_text.specs.Loads.{most_pairs};
@@ -50,7 +51,8 @@ fn parse_script(alloc: Global, input: &Input) -> Result<Script, Stop>
 pub fn parse_loads(alloc: Global, inputs: &[Input]) -> Result<Loads, Stop>
     requires { AllPairs (λ a b. a ≢ b) (map (λ input. input.0) inputs.now) }
     ensures loads { IfOk result (λ loads. meanings as_load inputs.now ≡ Ok loads) }
-    ensures names { IfOk result (λ loads. map (λ file. file.0) loads ≡ map (λ input. input.0) inputs.now) }
+    ensures names { IfOk result
+        (λ loads. map (λ file. file.0) loads ≡ map (λ input. input.0) inputs.now) }
     ensures in_range { IfOk result AllInRange }
     ensures past_reading { IfErr result IsPastReading }
     ensures stops { IfErr result (IsStopBy (meanings as_load inputs.now)) }

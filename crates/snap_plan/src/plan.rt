@@ -1,3 +1,4 @@
+//! The plan of a run: all that carrying it out needs, so that no input is read after it.
 use crate::ScriptList;
 use snap_model::Name;
 use snap_text::Loads;

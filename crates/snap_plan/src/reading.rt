@@ -1,3 +1,4 @@
+//! Files are read whole, in pieces, to the size that was told and no further; one that is too long is not read.
 ghost use Rattle.std.specs.Prelude.{◌≡◌, ◌<◌, ◌≤◌, ◌+◌, ◌⊎◌, ◌++◌, [], ◌∷◌, Ok, Err, None, false, true, length, map, option_map, vec_len, IfOk, IfErr, OnOk};
 ghost use Rattle.snap_io.specs.Causes.{Rose};
 ghost use Rattle.snap_io.specs.Shelves.{IfTold, IsAbsent, Sizes};
@@ -66,10 +67,13 @@ pub fn read_all<S: Shelf>(
     names: &[Name],
     most: u64,
 ) -> Result<Vec<Input>, Stop>
-    ensures inputs { IfOk result (λ inputs. IfTold (S.files shelf.old) (λ f. inputs_in most f names.now ≡ Ok inputs.items)) }
+    ensures inputs { IfOk result
+        (λ inputs. IfTold (S.files shelf.old) (λ f. inputs_in most f names.now ≡ Ok inputs.items)) }
     ensures names { IfOk result (λ inputs. map (λ input. input.0) inputs.items ≡ names.now) }
     ensures past_words { IfErr result IsPastWords }
-    ensures stops { IfErr result (StopsBy (S.files shelf.old) (λ f. inputs_in most f names.now) (λ f. names.now) (Rose (S.read_faults shelf.old) (S.read_faults shelf.new))) }
+    ensures stops { IfErr result
+        (StopsBy (S.files shelf.old) (λ f. inputs_in most f names.now) (λ f. names.now)
+        (Rose (S.read_faults shelf.old) (S.read_faults shelf.new))) }
     ensures later { S.read_faults shelf.old ≤ S.read_faults shelf.new }
     ensures files { S.files shelf.new ≡ S.files shelf.old }
     ensures writes { S.write_faults shelf.new ≡ S.write_faults shelf.old }
@@ -92,7 +96,9 @@ fn add(inputs: &mut Vec<Input>, input: Input) -> Result<(), OutOfMemory>
 fn read_input<S: Shelf>(alloc: Global, shelf: &mut S, name: &Name, most: u64) -> Result<Input, Stop>
     ensures named { IfOk result (λ input. input.0 ≡ name.now) }
     ensures bytes { IfOk result (λ input. IsRead most (S.files shelf.old) name.now input.1) }
-    ensures stops { IfErr result (IsUnread name.now (S.files shelf.old) (Rose (S.read_faults shelf.old) (S.read_faults shelf.new))) }
+    ensures stops { IfErr result
+        (IsUnread name.now (S.files shelf.old)
+        (Rose (S.read_faults shelf.old) (S.read_faults shelf.new))) }
     ensures later { S.read_faults shelf.old ≤ S.read_faults shelf.new }
     ensures files { S.files shelf.new ≡ S.files shelf.old }
     ensures writes { S.write_faults shelf.new ≡ S.write_faults shelf.old }
@@ -112,8 +118,11 @@ fn read_file<S: Shelf>(
     name: &str,
     most: u64,
 ) -> Result<Option<Vec<u8>>, ReadFault>
-    ensures bytes { IfOk result (λ bytes. IsRead most (S.files shelf.old) name.now (option_map (λ b. b.items) bytes)) }
-    ensures failed { result ≡ Err ReadFault.Failed → Rose (S.read_faults shelf.old) (S.read_faults shelf.new) ⊎ IsAbsent (S.files shelf.old) name.now }
+    ensures bytes { IfOk result
+        (λ bytes. IsRead most (S.files shelf.old) name.now (option_map (λ b. b.items) bytes)) }
+    ensures failed { result ≡ Err ReadFault.Failed
+        → Rose (S.read_faults shelf.old) (S.read_faults shelf.new)
+        ⊎ IsAbsent (S.files shelf.old) name.now }
     ensures later { S.read_faults shelf.old ≤ S.read_faults shelf.new }
     ensures files { S.files shelf.new ≡ S.files shelf.old }
     ensures writes { S.write_faults shelf.new ≡ S.write_faults shelf.old }
@@ -136,7 +145,9 @@ fn read_bytes<S: Shelf>(
     requires { IfTold (S.files shelf.old) (λ f. IsSize size (f name.now)) }
     ensures bytes { IfOk result (λ bytes. IsWhole (S.files shelf.old) name.now bytes.items) }
     ensures no_more { IfOk result (λ bytes. length bytes.items ≤ size) }
-    ensures failed { result ≡ Err ReadFault.Failed → Rose (S.read_faults shelf.old) (S.read_faults shelf.new) ⊎ IsAbsent (S.files shelf.old) name.now }
+    ensures failed { result ≡ Err ReadFault.Failed
+        → Rose (S.read_faults shelf.old) (S.read_faults shelf.new)
+        ⊎ IsAbsent (S.files shelf.old) name.now }
     ensures later { S.read_faults shelf.old ≤ S.read_faults shelf.new }
     ensures files { S.files shelf.new ≡ S.files shelf.old }
     ensures writes { S.write_faults shelf.new ≡ S.write_faults shelf.old }
@@ -166,7 +177,9 @@ fn read_more<S: Shelf>(
     ensures more { result ≡ Ok true → vec_len bytes.old < vec_len bytes.new }
     ensures end { result ≡ Ok false → IsWhole (S.files shelf.old) name.now bytes.new.items }
     ensures no_more { OnOk result (vec_len bytes.new ≤ vec_len bytes.old + length piece.old) }
-    ensures failed { result ≡ Err ReadFault.Failed → Rose (S.read_faults shelf.old) (S.read_faults shelf.new) ⊎ IsAbsent (S.files shelf.old) name.now }
+    ensures failed { result ≡ Err ReadFault.Failed
+        → Rose (S.read_faults shelf.old) (S.read_faults shelf.new)
+        ⊎ IsAbsent (S.files shelf.old) name.now }
     ensures later { S.read_faults shelf.old ≤ S.read_faults shelf.new }
     ensures files { S.files shelf.new ≡ S.files shelf.old }
     ensures writes { S.write_faults shelf.new ≡ S.write_faults shelf.old }

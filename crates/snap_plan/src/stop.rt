@@ -1,3 +1,4 @@
+//! Why a run is stopped before it has a plan, with the status that the program then ends with.
 ghost use Rattle.std.specs.Prelude.{◌≡◌};
 ghost use Rattle.snap_plan.specs.Stops.{status_of, stop_of_words};
 

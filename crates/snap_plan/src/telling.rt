@@ -1,3 +1,4 @@
+//! The text of a stop, as it is printed.
 ghost use Rattle.std.specs.Prelude.{◌≡◌, ◌++◌, IfOk};
 ghost use Rattle.std.specs.String.{string_bytes};
 ghost use Rattle.snap_plan.specs.Texts.{kind_name, limit_name, line_text, record_text, stop_text, words_name};

@@ -3,7 +3,7 @@ use Rattle.std.proofs.Common.{◌≡◌, ◌≤◌, ℕ, suc, Bool, true, false,
 use Rattle.std.specs.Prelude.{All, find, bytes_eq}
 use Rattle.snap_model.specs.SortedMap.{Pairs}
 use Rattle.snap_text.specs.Loads.{most_pairs}
-use Rattle.snap_text.specs.LoadFiles.{Loads, IsWithinLimits, file_of, pairs_of}
+use Rattle.snap_text.specs.LoadFiles.{Loads, HaveFewPairs, file_of, pairs_of}
 
 abbrev or_else : {X : Type 0} → Option X → X → X
 or_else None d = d
@@ -21,7 +21,7 @@ abbrev in_file : Option (List ℕ × Pairs) → Pairs
 in_file None = []
 in_file (Some file) = file.1
 
-pub few_pairs : (l : Loads) (name : List ℕ) → IsWithinLimits l → length (pairs_of l name) ≤ most_pairs
+pub few_pairs : (l : Loads) (name : List ℕ) → HaveFewPairs l → length (pairs_of l name) ≤ most_pairs
 few_pairs l name all = go (file_of l name) refl
   where
     go : (o : Option (List ℕ × Pairs)) → file_of l name ≡ o → length (in_file o) ≤ most_pairs

@@ -12,7 +12,7 @@ use Rattle.csv.specs.declared.parser.State.TheVariants as st
 use Rattle.csv.specs.declared.record.ByteRecord.{ByteRecord}
 use Rattle.snap_text.specs.declared.fault.PairsFault.{PairsFault}
 use Rattle.snap_text.specs.declared.fault.PairsFault.TheVariants as fault
-use Rattle.snap_text.specs.Csv.{Adds, IsReading, IsRefused}
+use Rattle.snap_text.specs.Csv.{AddsRow, IsReading, IsNoPair}
 use Rattle.snap_text.specs.Loads.{Fields, both, is_header, load_of, most_load_bytes, most_pairs, pair_of, pairs_from, records_of, under_header}
 use Rattle.snap_text.specs.Numbers.{FitsValue, greatest_key, number_of}
 use Rattle.snap_text.proofs.Costs.{Begin, all_pay, first_records, size, sizes}
@@ -162,7 +162,7 @@ abbrev pub AllFit : List (ℕ × ℕ) → Type 0
 AllFit pairs = All (λ (pair : ℕ × ℕ). FitsValue pair.1) pairs
 
 pub pair_added : (text : List ℕ) (rows : List Fields) (pairs new : List (ℕ × ℕ)) (a b : Rows) (row : Result ByteRecord Error)
-    → IsReading text rows a → AreHeaderAndPairs rows pairs → AllFit pairs → Steps a b row → Adds row pairs new
+    → IsReading text rows a → AreHeaderAndPairs rows pairs → AllFit pairs → Steps a b row → AddsRow row pairs new
     → (more : List Fields) × IsReading text more b × AreHeaderAndPairs more new × AllFit new
 pair_added text rows pairs new a b (Err error) h are fit steps adds = absurd adds
 pair_added text rows pairs new a b (Ok found) h are fit steps adds =
@@ -176,7 +176,7 @@ pair_added text rows pairs new a b (Ok found) h are fit steps adds =
     )
 
 pub pair_refused : (bytes : List ℕ) (rows : List Fields) (pairs : List (ℕ × ℕ)) (a b : Rows) (row : Result ByteRecord Error) (why : PairsFault)
-    → length bytes ≤ most_load_bytes → IsReading (strip_bom bytes) rows a → AreHeaderAndPairs rows pairs → Steps a b row → IsRefused row (length pairs + 2) why
+    → length bytes ≤ most_load_bytes → IsReading (strip_bom bytes) rows a → AreHeaderAndPairs rows pairs → Steps a b row → IsNoPair row (length pairs + 2) why
     → load_of bytes ≡ Err why
 pair_refused bytes rows pairs a b (Err error) why few h are steps is = absurd is
 pair_refused bytes rows pairs a b (Ok found) why few h are steps is =

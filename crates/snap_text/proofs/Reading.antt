@@ -9,7 +9,7 @@ use Rattle.snap_text.specs.declared.script.Line.{Line}
 use Rattle.snap_text.specs.Clones.{Slots, all_free}
 use Rattle.snap_text.specs.Grammar.{line_of}
 use Rattle.snap_text.specs.Lines.{lines, words}
-use Rattle.snap_text.specs.Refusals.{Answers, fault_in}
+use Rattle.snap_text.specs.Refusals.{AnswersLine, fault_of_line}
 use Rattle.snap_text.specs.Scripts.{is_too_long, script_from, script_of}
 
 -- a script with lines that stand before it
@@ -24,8 +24,8 @@ pub record IsReadSoFar (bytes : List ℕ) (front : List Line) (number : ℕ) (sl
 
 -- a line that is refused, or for which memory was wanting
 pub refused : (bytes : List ℕ) (front : List Line) (number : ℕ) (slots later : Slots) (left : List (List ℕ)) (line : List ℕ) (below : List (List ℕ)) (refusal : Refusal)
-    → IsReadSoFar bytes front number slots left → left ≡ line ∷ below → Answers (line_of (words line) slots) (Err refusal) later
-    → (fault_in (number + 1) refusal ≡ fault.Memory) ⊎ (script_from 1 all_free (lines bytes) ≡ Err (fault_in (number + 1) refusal))
+    → IsReadSoFar bytes front number slots left → left ≡ line ∷ below → AnswersLine (line_of (words line) slots) (Err refusal) later
+    → (fault_of_line (number + 1) refusal ≡ fault.Memory) ⊎ (script_from 1 all_free (lines bytes) ≡ Err (fault_of_line (number + 1) refusal))
 refused bytes front number slots later left line below (why.Line kind) read is bad = inr (rw (is, bad) at read.meaning)
 refused bytes front number slots later left line below why.Memory read is bad = inl refl
 

@@ -16,11 +16,11 @@ use Rattle.snap_text.specs.declared.script.Line.{Line}
 use Rattle.snap_text.specs.declared.verb.Verb.{Verb}
 use Rattle.snap_text.specs.declared.verb.Verb.TheVariants as verb
 use Rattle.snap_text.specs.Clones.{Slots, all_free, free_slot, has_name, slot_of}
-use Rattle.snap_text.specs.Grammar.{Action, File, Form, HasValueInRange, Key, Maker, Meaning, Name, Value, WordKind, and_then, done, done_by, drop_clone, drop_in, filled, form_of, in_slot, line_of, made, make_clone, make_in, meaning_of, on_clone, plain}
+use Rattle.snap_text.specs.Grammar.{Action, File, Form, HasValueInRange, Key, Maker, Meaning, Name, Value, WordKind, and_then, done, done_by, drop_clone, drop_in, filled_form, form_of, in_slot, line_of, made, make_clone, make_in, meaning_of, on_clone, plain}
 use Rattle.snap_text.specs.Lines.{lines, words}
 use Rattle.snap_text.specs.Numbers.{FitsValue, greatest_value, is_number}
 use Rattle.snap_text.specs.Scripts.{is_too_long, script_from, script_of, with_command, with_line}
-use Rattle.snap_text.specs.Uses.{AllUseSlots, IsFree, IsTaken, UsesSlots, slots_after}
+use Rattle.snap_text.specs.Uses.{AllUseSlots, IsFreeSlot, IsTakenSlot, UsesSlots, slots_after}
 use Rattle.snap_text.specs.Verbs.{verb_of}
 use Rattle.snap_text.proofs.Digits.{parts_of_number}
 
@@ -45,7 +45,7 @@ SoundMaker [] action = SoundAction action
 SoundMaker (kind ∷ kinds) make = (meaning : Meaning kind) → IsMeaning kind meaning → SoundMaker kinds (make meaning)
 
 -- the slots that are found
-taken_slot : (slots : Slots) (name : List ℕ) (slot : ℕ) → slot_of slots name ≡ Some slot → IsTaken slots slot
+taken_slot : (slots : Slots) (name : List ℕ) (slot : ℕ) → slot_of slots name ≡ Some slot → IsTakenSlot slots slot
 taken_slot slots name slot is =
     let at = position-Some (has_name name) slots slot None is in
     let some = named (get_or slots slot None) at.1 in
@@ -55,7 +55,7 @@ taken_slot slots name slot is =
     named None e = absurd (true≢false (sym e))
     named (Some other) e = (other, refl)
 
-free_is_free : (slots : Slots) (slot : ℕ) → free_slot slots ≡ Some slot → IsFree slots slot
+free_is_free : (slots : Slots) (slot : ℕ) → free_slot slots ≡ Some slot → IsFreeSlot slots slot
 free_is_free slots slot is =
     let at = position-Some is_none slots slot None is in
     slice_get-get_or slots slot None at.0 ∙ ap Some (none (get_or slots slot None) at.1)
@@ -73,7 +73,7 @@ plain_sound c in_range uses after slots d later e =
     let same = parts (c, slots) (d, later) (cc e) in
     rw (← same.0, ← same.1) (record { in_range = in_range; uses = uses slots; after = after slots })
 
-on_clone_sound : (name : List ℕ) (make : ℕ → Command) → ((slot : ℕ) → HasValueInRange (make slot)) → ((slots : Slots) (slot : ℕ) → IsTaken slots slot → UsesSlots slots (make slot))
+on_clone_sound : (name : List ℕ) (make : ℕ → Command) → ((slot : ℕ) → HasValueInRange (make slot)) → ((slots : Slots) (slot : ℕ) → IsTakenSlot slots slot → UsesSlots slots (make slot))
     → ((slots : Slots) (slot : ℕ) → slots ≡ slots_after slots (make slot)) → SoundAction (on_clone name make)
 on_clone_sound name make in_range uses after slots c later e = by_slot (slot_of slots name) refl e
   where
@@ -155,7 +155,7 @@ made_sound (kind ∷ kinds) make sound (word ∷ words) action e =
 
 done_sound : (form : Form) → SoundMaker form.kinds form.make → (words : List (List ℕ)) (slots : Slots) (c : Command) (later : Slots) → done form words slots ≡ Ok (c, later) → IsSound slots c later
 done_sound form sound words slots c later e =
-    let (action, is, does) = and_then_ok (filled form words) (λ action. action slots) (c, later) e in
+    let (action, is, does) = and_then_ok (filled_form form words) (λ action. action slots) (c, later) e in
     by_test (eqb (length words) (length form.kinds)) action is slots c later does
   where
     by_test : (as_many : Bool) (action : Action) → cond as_many (made form.kinds form.make words) (Err kind.WordCount) ≡ Ok action → SoundAction action

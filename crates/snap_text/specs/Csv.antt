@@ -19,7 +19,9 @@ use Rattle.snap_text.specs.Numbers.{FitsValue}
 
 -- the writer has the crate's defaults, and no field of a row is open
 abbrev pub IsBetweenRows : {W : Type 0} → Writer W → Type 0
-IsBetweenRows writer = (fields_written writer ≡ 0) × (has_written writer ≡ false) × (writer_setup writer ≡ default_writer)
+IsBetweenRows writer = (fields_written writer ≡ 0)
+    × (has_written writer ≡ false)
+    × (writer_setup writer ≡ default_writer)
 
 -- what a read of bytes may fail of: memory, or the reader underneath
 abbrev pub IsOfMemory : ErrorKind → Type 0
@@ -28,7 +30,8 @@ IsOfMemory (kind.Io error) = Unit {0}
 IsOfMemory _ = ⊥
 
 -- the first rows of a text were read, of any number of fields each, and `bytes` are left
-pub record IsReading (text : List ℕ) (rows : List Fields) (reader : ByteRecordsIntoIter (Bor (List ℕ))) : Type 0 where
+pub record IsReading (text : List ℕ) (rows : List Fields)
+    (reader : ByteRecordsIntoIter (Bor (List ℕ))) : Type 0 where
   pub goes_on : 0 < owned_rows_left reader
   pub is_ready : Ready (owned_rows_reader reader)
   pub config : reader_config (owned_rows_reader reader) ≡ default_config
@@ -36,20 +39,25 @@ pub record IsReading (text : List ℕ) (rows : List Fields) (reader : ByteRecord
   pub flexible : is_flexible (owned_rows_reader reader) ≡ true
   pub bytes : List ℕ
   pub left : source_of (λ slice. Some slice.now) (owned_rows_reader reader) ≡ Some bytes
-  pub reached : Reached default_config state.StartRecord text rows (reader_state (owned_rows_reader reader)) bytes
+  pub reached : Reached default_config state.StartRecord text rows
+      (reader_state (owned_rows_reader reader)) bytes
 
 -- the header was read, and nothing below it
-pub record IsBelowHeader (text : List ℕ) (reader : ByteRecordsIntoIter (Bor (List ℕ))) : Type 0 where
+pub record IsBelowHeader (text : List ℕ)
+    (reader : ByteRecordsIntoIter (Bor (List ℕ))) : Type 0 where
   pub header : Fields
   pub is_first : is_header header ≡ true
   pub reading : IsReading text (header ∷ []) reader
 
 -- the pair of the record was added behind the others
-abbrev pub Adds : Result ByteRecord Error → List (ℕ × ℕ) → List (ℕ × ℕ) → Type 0
-Adds (Ok row) old new = (pair : ℕ × ℕ) × (pair_of (fields_of row) ≡ Some pair) × FitsValue pair.1 × (new ≡ old ++ pair ∷ [])
-Adds (Err error) old new = ⊥
+abbrev pub AddsRow : Result ByteRecord Error → List (ℕ × ℕ) → List (ℕ × ℕ) → Type 0
+AddsRow (Ok row) old new = (pair : ℕ × ℕ)
+    × (pair_of (fields_of row) ≡ Some pair)
+    × FitsValue pair.1
+    × (new ≡ old ++ pair ∷ [])
+AddsRow (Err error) old new = ⊥
 
 -- the record, which has this number, is no pair
-abbrev pub IsRefused : Result ByteRecord Error → ℕ → PairsFault → Type 0
-IsRefused (Ok row) number why = (pair_of (fields_of row) ≡ None) × (why ≡ fault.Record number)
-IsRefused (Err error) number why = ⊥
+abbrev pub IsNoPair : Result ByteRecord Error → ℕ → PairsFault → Type 0
+IsNoPair (Ok row) number why = (pair_of (fields_of row) ≡ None) × (why ≡ fault.Record number)
+IsNoPair (Err error) number why = ⊥

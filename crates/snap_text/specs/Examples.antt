@@ -24,7 +24,8 @@ a_line_with_return : script_of (codes "get 7\r\n") ≡ Ok (at_line 1 (Get 7) ∷
 unfolding script_of all_free verb_of
 a_line_with_return = refl
 
-no_feed_at_the_end : script_of (codes "get 1\nremove 2") ≡ Ok (at_line 1 (Get 1) ∷ at_line 2 (Remove 2) ∷ [])
+no_feed_at_the_end : script_of (codes "get 1\nremove 2")
+    ≡ Ok (at_line 1 (Get 1) ∷ at_line 2 (Remove 2) ∷ [])
 unfolding script_of all_free verb_of
 no_feed_at_the_end = refl
 
@@ -37,7 +38,8 @@ tabs_and_spaces : script_of (codes " \tput\t5  50 \n") ≡ Ok (at_line 1 (Put 5 
 unfolding script_of all_free verb_of
 tabs_and_spaces = refl
 
-skipped_lines_count : script_of (codes "# a note\n\n \t\n#\nget 007\n") ≡ Ok (at_line 5 (Get 7) ∷ [])
+skipped_lines_count : script_of (codes "# a note\n\n \t\n#\nget 007\n")
+    ≡ Ok (at_line 5 (Get 7) ∷ [])
 unfolding script_of all_free verb_of
 skipped_lines_count = refl
 
@@ -53,11 +55,13 @@ case_matters : script_of (codes "PUT 1 1") ≡ Err (fault.Line 1 UnknownWord)
 unfolding script_of all_free verb_of
 case_matters = refl
 
-the_greatest_key : script_of (codes "put 18446744073709551615 0") ≡ Ok (at_line 1 (Put 18446744073709551615 0) ∷ [])
+the_greatest_key : script_of (codes "put 18446744073709551615 0")
+    ≡ Ok (at_line 1 (Put 18446744073709551615 0) ∷ [])
 unfolding script_of all_free verb_of
 the_greatest_key = refl
 
-the_greatest_value : script_of (codes "put 1 18446744073709551614") ≡ Ok (at_line 1 (Put 1 18446744073709551614) ∷ [])
+the_greatest_value : script_of (codes "put 1 18446744073709551614")
+    ≡ Ok (at_line 1 (Put 1 18446744073709551614) ∷ [])
 unfolding script_of all_free verb_of
 the_greatest_value = refl
 
@@ -71,7 +75,9 @@ the_second_line = refl
 
 -- clones and their slots
 slots_are_used_again : script_of (codes "clone a\nclone b\ndrop a\nclone c\nsee b 7\n")
-    ≡ Ok (at_line 1 (Snap 0 (codes "a")) ∷ at_line 2 (Snap 1 (codes "b")) ∷ at_line 3 (Forget 0 (codes "a")) ∷ at_line 4 (Snap 0 (codes "c")) ∷ at_line 5 (See 1 7) ∷ [])
+    ≡ Ok
+    (at_line 1 (Snap 0 (codes "a")) ∷ at_line 2 (Snap 1 (codes "b"))
+    ∷ at_line 3 (Forget 0 (codes "a")) ∷ at_line 4 (Snap 0 (codes "c")) ∷ at_line 5 (See 1 7) ∷ [])
 unfolding script_of all_free verb_of
 slots_are_used_again = refl
 
@@ -79,7 +85,9 @@ a_live_name : script_of (codes "clone a\nclone a\n") ≡ Err (fault.Line 2 Clone
 unfolding script_of all_free verb_of
 a_live_name = refl
 
-the_depth_of_a_clone : script_of (codes "clone a\nclone b\ndepth b\n") ≡ Ok (at_line 1 (Snap 0 (codes "a")) ∷ at_line 2 (Snap 1 (codes "b")) ∷ at_line 3 (Depth 1) ∷ [])
+the_depth_of_a_clone : script_of (codes "clone a\nclone b\ndepth b\n")
+    ≡ Ok
+    (at_line 1 (Snap 0 (codes "a")) ∷ at_line 2 (Snap 1 (codes "b")) ∷ at_line 3 (Depth 1) ∷ [])
 unfolding script_of all_free verb_of
 the_depth_of_a_clone = refl
 
@@ -95,10 +103,12 @@ words_come_before_clones : script_of (codes "see a x\n") ≡ Err (fault.Line 1 B
 unfolding script_of all_free verb_of
 words_come_before_clones = refl
 
-words_from_left_to_right : script_of (codes "clone a\nexport a 0 x -f\n") ≡ Err (fault.Line 2 BadNumber)
+words_from_left_to_right : script_of (codes "clone a\nexport a 0 x -f\n")
+    ≡ Err (fault.Line 2 BadNumber)
 unfolding script_of all_free verb_of
 words_from_left_to_right = refl
 
-files_and_tables : script_of (codes "use t\nload a/b.csv\n") ≡ Ok (at_line 1 (Table (codes "t")) ∷ at_line 2 (Load (codes "a/b.csv")) ∷ [])
+files_and_tables : script_of (codes "use t\nload a/b.csv\n")
+    ≡ Ok (at_line 1 (Table (codes "t")) ∷ at_line 2 (Load (codes "a/b.csv")) ∷ [])
 unfolding script_of all_free verb_of
 files_and_tables = refl

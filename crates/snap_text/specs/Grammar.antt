@@ -32,7 +32,8 @@ meaning_of Value word = ok_or (number_of greatest_value word) BadNumber
 meaning_of Name word = if is_name word then Ok word else Err BadName
 meaning_of File word = if is_file word then Ok word else Err BadName
 
--- what a line does while these clones are live: its command and the clones afterwards, or what is wrong with it
+-- what a line does while these clones are live: its command and the clones afterwards, or what is
+-- wrong with it
 abbrev pub Action : Type 0
 Action = Slots → Result (Command × Slots) LineKind
 
@@ -55,7 +56,8 @@ make_in None name slots = Err TooManyClones
 make_in (Some slot) name slots = Ok (command.Snap slot name, with_clone slots slot name)
 
 abbrev pub make_clone : List ℕ → Action
-make_clone name slots = if is_some (slot_of slots name) then Err CloneTaken else make_in (free_slot slots) name slots
+make_clone name slots =
+    if is_some (slot_of slots name) then Err CloneTaken else make_in (free_slot slots) name slots
 
 -- the live clone of a name is given up
 abbrev pub drop_in : Option ℕ → List ℕ → Action
@@ -80,12 +82,14 @@ abbrev pub of_clone : (ℕ → Command) → Form
 of_clone command = record { kinds = Name ∷ []; make = λ name. on_clone name command }
 
 abbrev pub of_clone_and_key : (ℕ → ℕ → Command) → Form
-of_clone_and_key command = record { kinds = Name ∷ Key ∷ []; make = λ name key. on_clone name (λ slot. command slot key) }
+of_clone_and_key command =
+    record { kinds = Name ∷ Key ∷ []; make = λ name key. on_clone name (λ slot. command slot key) }
 
 -- the language
 abbrev pub form_of : Verb → Form
 form_of verb.Use = record { kinds = Name ∷ []; make = λ table. plain (command.Table table) }
-form_of verb.Put = record { kinds = Key ∷ Value ∷ []; make = λ key value. plain (command.Put key value) }
+form_of verb.Put =
+    record { kinds = Key ∷ Value ∷ []; make = λ key value. plain (command.Put key value) }
 form_of verb.Remove = record { kinds = Key ∷ []; make = λ key. plain (command.Remove key) }
 form_of verb.Get = record { kinds = Key ∷ []; make = λ key. plain (command.Get key) }
 form_of verb.Clone = record { kinds = Name ∷ []; make = make_clone }
@@ -97,7 +101,10 @@ form_of verb.Floor = of_clone_and_key (λ slot key. command.Floor slot key)
 form_of verb.Lower = of_clone_and_key (λ slot key. command.Lower slot key)
 form_of verb.Ceiling = of_clone_and_key (λ slot key. command.Ceiling slot key)
 form_of verb.Higher = of_clone_and_key (λ slot key. command.Higher slot key)
-form_of verb.Count = record { kinds = Name ∷ Key ∷ Key ∷ []; make = λ name lo hi. on_clone name (λ slot. command.Count slot lo hi) }
+form_of verb.Count = record {
+  kinds = Name ∷ Key ∷ Key ∷ [];
+  make = λ name lo hi. on_clone name (λ slot. command.Count slot lo hi);
+}
 form_of verb.Depth = of_clone (λ slot. command.Depth slot)
 form_of verb.Export = record {
   kinds = Name ∷ Key ∷ Key ∷ File ∷ [];
@@ -106,7 +113,8 @@ form_of verb.Export = record {
 form_of verb.Load = record { kinds = File ∷ []; make = λ file. plain (command.Load file) }
 
 -- what follows from a meaning, where there is one
-abbrev pub and_then : {A B : Type 0} → Result A LineKind → (A → Result B LineKind) → Result B LineKind
+abbrev pub and_then : {A B : Type 0} → Result A LineKind → (A → Result B LineKind)
+    → Result B LineKind
 and_then (Ok x) f = f x
 and_then (Err kind) f = Err kind
 
@@ -114,22 +122,25 @@ and_then (Err kind) f = Err kind
 abbrev pub made : (kinds : List WordKind) → Maker kinds → List (List ℕ) → Result Action LineKind
 made [] action words = Ok action
 made (kind ∷ kinds) make [] = Err WordCount
-made (kind ∷ kinds) make (word ∷ words) = and_then (meaning_of kind word) (λ meaning. made kinds (make meaning) words)
+made (kind ∷ kinds) make (word ∷ words) =
+    and_then (meaning_of kind word) (λ meaning. made kinds (make meaning) words)
 
 -- the action of a form with these words after the first
-abbrev pub filled : Form → List (List ℕ) → Result Action LineKind
-filled form words = if length words == length form.kinds then made form.kinds form.make words else Err WordCount
+abbrev pub filled_form : Form → List (List ℕ) → Result Action LineKind
+filled_form form words =
+    if length words == length form.kinds then made form.kinds form.make words else Err WordCount
 
 -- what a form with these words does while these clones are live
 abbrev pub done : Form → List (List ℕ) → Action
-done form words slots = and_then (filled form words) (λ action. action slots)
+done form words slots = and_then (filled_form form words) (λ action. action slots)
 
 -- the same of a line's verb, if it has one
 abbrev pub done_by : Option Verb → List (List ℕ) → Action
 done_by None words slots = Err UnknownWord
 done_by (Some verb) words slots = done (form_of verb) words slots
 
--- what a line does, by its words: a line without words, or whose first word begins with `#`, has no command
+-- what a line does, by its words: a line without words, or whose first word begins with `#`, has no
+-- command
 abbrev pub line_of : List (List ℕ) → Slots → Result (Option Command × Slots) LineKind
 line_of [] slots = Ok (None, slots)
 line_of (word ∷ words) slots =

@@ -1,7 +1,8 @@
 -- The lines of a text, and the words of a line.
 use Rattle.std.specs.Prelude.{◌==◌, ◌||◌, not, ℕ, Bool, List, length, filter}
 use Rattle.std.specs.List.{slice_split}
--- Lines end with LF, which the last may lack; a CR before the LF is no part of its line; an empty text has no line.
+-- Lines end with LF, which the last may lack; a CR before the LF is no part of its line; an empty
+-- text has no line.
 pub use Rattle.std.specs.Str.Lines.{lines}
 
 -- the byte separates words: a space or a tab

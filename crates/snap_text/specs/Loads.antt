@@ -23,7 +23,8 @@ pair_of (key ∷ value ∷ []) = both (number_of greatest_key key) (number_of gr
 pair_of _ = None
 
 -- what record n holds, and after it the pairs of the records below it
-abbrev pub with_pair : ℕ → Option (ℕ × ℕ) → Result (List (ℕ × ℕ)) PairsFault → Result (List (ℕ × ℕ)) PairsFault
+abbrev pub with_pair : ℕ → Option (ℕ × ℕ) → Result (List (ℕ × ℕ)) PairsFault
+    → Result (List (ℕ × ℕ)) PairsFault
 with_pair n None below = Err (fault.Record n)
 with_pair n (Some pair) (Err other) = Err other
 with_pair n (Some pair) (Ok below) = Ok (pair ∷ below)
@@ -51,4 +52,5 @@ records_of bytes = records default_config (strip_bom bytes)
 
 -- the pairs of a load file, in their order
 unfoldable pub load_of : List ℕ → Result (List (ℕ × ℕ)) PairsFault
-load_of bytes = if nat_lt most_load_bytes (length bytes) then Err fault.TooLong else under_header (records_of bytes)
+load_of bytes = if nat_lt most_load_bytes (length bytes) then Err fault.TooLong
+    else under_header (records_of bytes)

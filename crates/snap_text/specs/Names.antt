@@ -18,4 +18,5 @@ is_file_byte b = is_ascii_alphanumeric b || (b == 95) || (b == 46) || (b == 45) 
 -- the text is a file name: 1 to 200 such bytes, the first of which is no `-`
 abbrev pub is_file : List ℕ → Bool
 is_file text =
-    nat_le 1 (length text) && nat_le (length text) 200 && list_all is_file_byte text && not (slice_index text 0 == 45)
+    nat_le 1 (length text) && nat_le (length text) 200 && list_all is_file_byte text
+    && not (slice_index text 0 == 45)

@@ -16,7 +16,8 @@ FitsValue value = value + 1 < 2 ^ 64
 
 -- the text is a number of at most `most`
 abbrev pub is_number : ℕ → List ℕ → Bool
-is_number most text = nat_lt 0 (length text) && (all_ascii_digits text && nat_le (digits_value 10 text) most)
+is_number most text =
+    nat_lt 0 (length text) && (all_ascii_digits text && nat_le (digits_value 10 text) most)
 
 -- the number that the text writes, if it is at most `most`
 abbrev pub number_of : ℕ → List ℕ → Option ℕ

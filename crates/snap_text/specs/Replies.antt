@@ -60,7 +60,8 @@ reply_words c (reply.Value value) = codes "value " ++ decimal value
 reply_words c (reply.Pair key value) = codes "pair " ++ decimal key ++ codes " " ++ decimal value
 reply_words c (reply.Count n) = codes "count " ++ decimal n
 reply_words c (reply.Depth depth pairs settled) =
-    codes "depth " ++ decimal depth ++ codes " pairs " ++ decimal pairs ++ codes " " ++ settled_word settled
+    codes "depth " ++ decimal depth ++ codes " pairs " ++ decimal pairs ++ codes " "
+    ++ settled_word settled
 reply_words c (reply.Exported n) = codes "exported " ++ decimal n
 reply_words c (reply.Loaded n) = codes "loaded " ++ decimal n
 reply_words c reply.Full = codes "full"

@@ -1,5 +1,5 @@
--- The slots that a script's commands use: a clone is made in a free slot, and every other command on a clone is on a
--- live one.
+-- The slots that a script's commands use: a clone is made in a free slot, and every other command
+-- on a clone is on a live one.
 use Rattle.std.specs.Prelude.{◌≡◌, ℕ, List, [], ◌∷◌, Some, None, slice_get}
 use Rattle.snap_model.specs.declared.command.Command.{Command}
 use Rattle.snap_model.specs.declared.command.Command.TheVariants as command
@@ -7,27 +7,27 @@ use Rattle.snap_text.specs.declared.script.Line.{Line}
 use Rattle.snap_text.specs.Clones.{Slots, with_clone, without_clone}
 
 -- there is such a slot, and it is free
-abbrev pub IsFree : Slots → ℕ → Type 0
-IsFree slots slot = slice_get slots slot ≡ Some None
+abbrev pub IsFreeSlot : Slots → ℕ → Type 0
+IsFreeSlot slots slot = slice_get slots slot ≡ Some None
 
 -- there is such a slot, and it has a clone
-abbrev pub IsTaken : Slots → ℕ → Type 0
-IsTaken slots slot = (name : List ℕ) × (slice_get slots slot ≡ Some (Some name))
+abbrev pub IsTakenSlot : Slots → ℕ → Type 0
+IsTakenSlot slots slot = (name : List ℕ) × (slice_get slots slot ≡ Some (Some name))
 
 -- the command uses a slot that it may use
 abbrev pub UsesSlots : Slots → Command → Type 0
-UsesSlots slots (command.Snap slot name) = IsFree slots slot
-UsesSlots slots (command.Forget slot name) = IsTaken slots slot
-UsesSlots slots (command.See slot key) = IsTaken slots slot
-UsesSlots slots (command.First slot) = IsTaken slots slot
-UsesSlots slots (command.Last slot) = IsTaken slots slot
-UsesSlots slots (command.Floor slot key) = IsTaken slots slot
-UsesSlots slots (command.Lower slot key) = IsTaken slots slot
-UsesSlots slots (command.Ceiling slot key) = IsTaken slots slot
-UsesSlots slots (command.Higher slot key) = IsTaken slots slot
-UsesSlots slots (command.Count slot lo hi) = IsTaken slots slot
-UsesSlots slots (command.Depth slot) = IsTaken slots slot
-UsesSlots slots (command.Export slot lo hi file) = IsTaken slots slot
+UsesSlots slots (command.Snap slot name) = IsFreeSlot slots slot
+UsesSlots slots (command.Forget slot name) = IsTakenSlot slots slot
+UsesSlots slots (command.See slot key) = IsTakenSlot slots slot
+UsesSlots slots (command.First slot) = IsTakenSlot slots slot
+UsesSlots slots (command.Last slot) = IsTakenSlot slots slot
+UsesSlots slots (command.Floor slot key) = IsTakenSlot slots slot
+UsesSlots slots (command.Lower slot key) = IsTakenSlot slots slot
+UsesSlots slots (command.Ceiling slot key) = IsTakenSlot slots slot
+UsesSlots slots (command.Higher slot key) = IsTakenSlot slots slot
+UsesSlots slots (command.Count slot lo hi) = IsTakenSlot slots slot
+UsesSlots slots (command.Depth slot) = IsTakenSlot slots slot
+UsesSlots slots (command.Export slot lo hi file) = IsTakenSlot slots slot
 UsesSlots slots _ = Unit {0}
 
 -- the slots after a command
@@ -39,4 +39,5 @@ slots_after slots _ = slots
 -- each command of these lines does
 abbrev pub AllUseSlots : Slots → List Line → Type 0
 AllUseSlots slots [] = Unit {0}
-AllUseSlots slots (line ∷ below) = UsesSlots slots line.command × AllUseSlots (slots_after slots line.command) below
+AllUseSlots slots (line ∷ below) =
+    UsesSlots slots line.command × AllUseSlots (slots_after slots line.command) below

@@ -3,33 +3,35 @@ use Rattle.std.specs.Prelude.{ℕ, List, [], ◌∷◌, Option, bytes_eq, codes,
 use Rattle.snap_text.specs.declared.verb.Verb.{Verb}
 use Rattle.snap_text.specs.declared.verb.Verb.TheVariants as verb
 
-abbrev pub word_of : Verb → List ℕ
-word_of verb.Use = codes "use"
-word_of verb.Put = codes "put"
-word_of verb.Remove = codes "remove"
-word_of verb.Get = codes "get"
-word_of verb.Clone = codes "clone"
-word_of verb.Drop = codes "drop"
-word_of verb.See = codes "see"
-word_of verb.First = codes "first"
-word_of verb.Last = codes "last"
-word_of verb.Floor = codes "floor"
-word_of verb.Lower = codes "lower"
-word_of verb.Ceiling = codes "ceiling"
-word_of verb.Higher = codes "higher"
-word_of verb.Count = codes "count"
-word_of verb.Depth = codes "depth"
-word_of verb.Export = codes "export"
-word_of verb.Load = codes "load"
+abbrev pub verb_word : Verb → List ℕ
+verb_word verb.Use = codes "use"
+verb_word verb.Put = codes "put"
+verb_word verb.Remove = codes "remove"
+verb_word verb.Get = codes "get"
+verb_word verb.Clone = codes "clone"
+verb_word verb.Drop = codes "drop"
+verb_word verb.See = codes "see"
+verb_word verb.First = codes "first"
+verb_word verb.Last = codes "last"
+verb_word verb.Floor = codes "floor"
+verb_word verb.Lower = codes "lower"
+verb_word verb.Ceiling = codes "ceiling"
+verb_word verb.Higher = codes "higher"
+verb_word verb.Count = codes "count"
+verb_word verb.Depth = codes "depth"
+verb_word verb.Export = codes "export"
+verb_word verb.Load = codes "load"
 
 abbrev pub verbs : List Verb
 verbs =
-    verb.Use ∷ verb.Put ∷ verb.Remove ∷ verb.Get ∷ verb.Clone ∷ verb.Drop ∷ verb.See ∷ verb.First ∷ verb.Last ∷ verb.Floor
-    ∷ verb.Lower ∷ verb.Ceiling ∷ verb.Higher ∷ verb.Count ∷ verb.Depth ∷ verb.Export ∷ verb.Load ∷ []
+    verb.Use ∷ verb.Put ∷ verb.Remove ∷ verb.Get ∷ verb.Clone ∷ verb.Drop ∷ verb.See ∷ verb.First
+    ∷ verb.Last ∷ verb.Floor
+    ∷ verb.Lower ∷ verb.Ceiling ∷ verb.Higher ∷ verb.Count ∷ verb.Depth ∷ verb.Export ∷ verb.Load
+    ∷ []
 
 -- the verb that a word writes
 unfoldable pub verb_of : List ℕ → Option Verb
-verb_of word = find (λ verb. bytes_eq (word_of verb) word) verbs
+verb_of word = find (λ verb. bytes_eq (verb_word verb) word) verbs
 
 -- the verb asks a clone at a key
 abbrev pub AsksAtKey : Verb → Type 0

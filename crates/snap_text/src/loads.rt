@@ -1,3 +1,4 @@
+//! Load files by name, which all workers share.
 ghost use Rattle.std.specs.Prelude.{◌≡◌, ◌≤◌, ◌++◌, [], ◌∷◌, ◌↔◌, ℕ, List, IsTrue, length, OnOk, OnErr};
 ghost use Rattle.std.specs.Option.{option_copied};
 ghost use Rattle.snap_text.specs.Loads.{most_pairs};
@@ -15,13 +16,13 @@ pub struct Loads {
 }
 
 impl Model for Loads {
-    ghost use Rattle.snap_text.specs.LoadFiles.{Loads, IsWithinLimits};
+    ghost use Rattle.snap_text.specs.LoadFiles.{Loads, HaveFewPairs};
 
     ghost Value = { Loads };
 
     ghost view = { λ l. l.files.items };
 
-    ghost invariant = { λ l. IsWithinLimits l.files.items };
+    ghost invariant = { λ l. HaveFewPairs l.files.items };
 }
 
 impl Loads {

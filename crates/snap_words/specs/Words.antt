@@ -50,8 +50,10 @@ number_or usual (Some text) = digits_value 10 text
 
 -- each number is one in its range
 abbrev pub has_numbers : Arguments → Bool
-has_numbers a = passes (is_number_from 1 most_rows) a.rows && (passes (is_number_from 1 most_commands) a.generate
-    && (passes (is_number_from 0 most_seed) a.seed && passes (is_number_from 1 most_workers) a.workers))
+has_numbers a = passes (is_number_from 1 most_rows) a.rows
+    && (passes (is_number_from 1 most_commands) a.generate
+    && (passes (is_number_from 0 most_seed) a.seed
+    && passes (is_number_from 1 most_workers) a.workers))
 
 -- each name is a file name
 abbrev pub has_names : Arguments → Bool
@@ -61,7 +63,8 @@ has_names a = passes is_file a.last && list_all is_file a.scripts
 abbrev pub has_choice : Arguments → Bool
 has_choice a =
     if is_some a.generate then length a.scripts == 0
-    else (nat_le 1 (length a.scripts) && nat_le (length a.scripts) most_scripts && not (is_some a.seed || is_some a.workers))
+    else (nat_le 1 (length a.scripts) && nat_le (length a.scripts) most_scripts
+    && not (is_some a.seed || is_some a.workers))
 
 -- the first fault of what the words give
 abbrev pub fault_in : Arguments → Option WordsRefusal
@@ -75,7 +78,8 @@ fault_in a =
 -- what they ask for, where there is none
 abbrev pub work_in : Option Text → Arguments → Work
 work_in None a = Scripts a.scripts
-work_in (Some commands) a = Made (digits_value 10 commands) (number_or 1 a.seed) (number_or 1 a.workers)
+work_in (Some commands) a =
+    Made (digits_value 10 commands) (number_or 1 a.seed) (number_or 1 a.workers)
 
 abbrev pub job_in : Arguments → Job
 job_in a = record { rows = number_or usual_rows a.rows; last = a.last; work = work_in a.generate a }

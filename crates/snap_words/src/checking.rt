@@ -1,3 +1,4 @@
+//! The first fault of what the words give, or their numbers, found without taking memory.
 ghost use Rattle.std.specs.Prelude.{◌≡◌, Some, None, bytes_eq, map, option_map, if◌then◌else◌};
 ghost use Rattle.std.specs.List.{list_all, list_any};
 ghost use Rattle.std.specs.Str.Parse.{digits_value};
@@ -45,7 +46,9 @@ pub fn check(given: &Given<'_, '_>) -> Result<Numbers, WordsRefusal>
 }
 
 fn read_numbers(given: &Given<'_, '_>) -> Option<Numbers>
-    ensures { result ≡ (if has_numbers (given_by given.now) then Some (numbers_in (given_by given.now)) else None) }
+    ensures { result
+        ≡ (if has_numbers (given_by given.now) then Some (numbers_in (given_by given.now))
+        else None) }
 {
     let rows = number_or(given.rows, 1, MOST_ROWS, DEFAULT_ROWS)?;
     let commands = match given.generate {
@@ -62,7 +65,10 @@ fn read_numbers(given: &Given<'_, '_>) -> Option<Numbers>
 
 // The number that is given, if it is one in the range, or the usual one.
 fn number_or(text: Option<&str>, least: u32, most: u32, usual: u32) -> Option<u32>
-    ensures { result ≡ (if passes (is_number_from least most) (option_map (λ t. t.now) text.entry) then Some (number_or usual (option_map (λ t. t.now) text.entry)) else None) }
+    ensures { result
+        ≡ (if passes (is_number_from least most) (option_map (λ t. t.now) text.entry)
+        then Some (number_or usual (option_map (λ t. t.now) text.entry))
+        else None) }
 {
     match text {
         None => Some(usual),
@@ -71,7 +77,8 @@ fn number_or(text: Option<&str>, least: u32, most: u32, usual: u32) -> Option<u3
 }
 
 fn number_from(text: &str, least: u32, most: u32) -> Option<u32>
-    ensures { result ≡ (if is_number_from least most text.now then Some (digits_value 10 text.now) else None) }
+    ensures { result
+        ≡ (if is_number_from least most text.now then Some (digits_value 10 text.now) else None) }
 {
     let number = read_number(text.as_bytes())?;
     if number < u64::from(least) || number > u64::from(most) {
@@ -108,7 +115,9 @@ fn has_choice(given: &Given<'_, '_>) -> bool
 // Whether two of the files that are to be written are one.
 #[tactic(auto, using(crate::proofs::Outputs::outputs_with, crate::proofs::Outputs::outputs_without))]
 fn outputs_meet(scripts: &[&str], last: Option<&str>) -> bool
-    ensures { result ≡ has_twice (outputs (map (λ name. name.now) scripts.now) (option_map (λ name. name.now) last.entry)) }
+    ensures { result
+        ≡ has_twice
+        (outputs (map (λ name. name.now) scripts.now) (option_map (λ name. name.now) last.entry)) }
 {
     match last {
         None => has_twice(scripts),
@@ -135,7 +144,8 @@ fn is_among(scripts: &[&str], name: &[u8]) -> bool
 
 // Whether the name is that of the reply file of one of the scripts.
 fn is_reply_name(scripts: &[&str], name: &str) -> bool
-    ensures { result ≡ list_any (bytes_eq name.now) (map reply_name (map (λ script. script.now) scripts.now)) }
+    ensures { result
+        ≡ list_any (bytes_eq name.now) (map reply_name (map (λ script. script.now) scripts.now)) }
 {
     match name.as_bytes().strip_suffix(b".out") {
         None => false,

@@ -1,3 +1,4 @@
+//! The command as `clap` knows it, and what the words give for each of its parts.
 ghost use Rattle.std.specs.Prelude.{◌≡◌, ◌≢◌, [], IfErr, IfOk, codes, false, map, option_map, unwrap_or};
 ghost use Rattle.std.specs.String.{string_bytes};
 ghost use Rattle.clap.specs.Words.{all_of, app_of, first_of, found_of, rows_of, rule_of};
@@ -40,8 +41,13 @@ impl<'m, 'a> Given<'m, 'a> {
 #[tactic(auto, unfolding(crate::specs::CommandLine::misuse, crate::specs::CommandLine::arguments_of))]
 pub fn match_words<'a>(alloc: Global, words: &'a [String]) -> Result<ArgMatches<'a>, WordsFault>
     ensures taken { IfOk result (λ _. misuse (map string_bytes words.entry.now) ≡ []) }
-    ensures arguments { IfOk result (λ matches. arguments_in (rows_of (found_of matches)) ≡ arguments_of (map string_bytes words.entry.now)) }
-    ensures refused { IfErr result (λ fault. fault ≢ WordsFault.Memory → (fault ≡ WordsFault.Refused WordsRefusal.Usage) × (misuse (map string_bytes words.entry.now) ≢ [])) }
+    ensures arguments { IfOk result
+        (λ matches. arguments_in (rows_of (found_of matches))
+        ≡ arguments_of (map string_bytes words.entry.now)) }
+    ensures refused { IfErr result
+        (λ fault. fault ≢ WordsFault.Memory
+        → (fault ≡ WordsFault.Refused WordsRefusal.Usage)
+        × (misuse (map string_bytes words.entry.now) ≢ [])) }
 {
     let command = new_command(alloc)?;
     match command.try_get_matches_from(words) {
@@ -95,13 +101,15 @@ fn scripts<'a>(alloc: Global, name: &'a str) -> Arg<'a>
 }
 
 fn option_value<'a>(matches: &ArgMatches<'a>, name: &str) -> Option<&'a str>
-    ensures { option_map (λ text. text.now) result ≡ first_of name.now (rows_of (found_of matches.now)) }
+    ensures { option_map (λ text. text.now) result
+        ≡ first_of name.now (rows_of (found_of matches.now)) }
 {
     matches.get_str(name)
 }
 
 fn scripts_of<'m, 'a>(matches: &'m ArgMatches<'a>) -> &'m [&'a str]
-    ensures { map (λ text. text.now) result.now ≡ unwrap_or (all_of (codes "SCRIPT") (rows_of (found_of matches.entry.now))) [] }
+    ensures { map (λ text. text.now) result.now
+        ≡ unwrap_or (all_of (codes "SCRIPT") (rows_of (found_of matches.entry.now))) [] }
 {
     matches.get_strs("SCRIPT").unwrap_or_default()
 }

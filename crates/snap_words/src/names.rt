@@ -1,3 +1,4 @@
+//! Names, as a list that contracts can see.
 ghost use Rattle.std.specs.Prelude.{◌≡◌, [], ◌∷◌, ◌++◌, OnOk, OnErr};
 
 use snap_model::{Name, OutOfMemory};

@@ -1,3 +1,4 @@
+//! The job that words ask for, with its limits, or why they make none.
 ghost use Rattle.std.specs.Prelude.{◌≡◌, map, IfOk, IfErr};
 ghost use Rattle.std.specs.String.{string_bytes};
 ghost use Rattle.snap_words.specs.Checks.{numbers_in};

@@ -6,7 +6,7 @@ use Rattle.std.specs.Option.{option_map, option_or}
 use Rattle.std.proofs.Math.Seq.{take-length}
 use Rattle.std.proofs.lemmas.List.{drop_more, get_or-take, length-take-le, take-append-drop, take_more}
 use Rattle.std.proofs.lemmas.Slice.Eq.{bytes_eq-Decides}
-use Rattle.snap_io.specs.Shelves.{Files, IfTold, SameBut, Changes, Creates, Appends, Grows}
+use Rattle.snap_io.specs.Shelves.{Files, IfTold, SameBut, Changes, Creates, Appends, GrowsBy}
 use Rattle.snap_write.specs.Outputs.{HasBegun, HasFront, HasWritten, Outputs, blank, names_of, text_for}
 use Rattle.snap_write.proofs.Causes.{here}
 

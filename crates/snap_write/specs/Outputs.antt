@@ -24,7 +24,8 @@ text_for outputs name = lookup (λ file. bytes_eq file name) outputs
 
 -- each of these files has its text, and every other file is as it was
 abbrev pub HasWritten : Outputs → Files → Files → Type 0
-HasWritten outputs old new = (name : List ℕ) → new name ≡ option_or (text_for outputs name) (old name)
+HasWritten outputs old new =
+    (name : List ℕ) → new name ≡ option_or (text_for outputs name) (old name)
 
 -- a file has the front of a text, if there is one
 abbrev pub HasFront : Option (List ℕ) → Option (List ℕ) → Type 0
@@ -33,9 +34,11 @@ HasFront (Some text) file = (part : ℕ) × (file ≡ Some (take part text))
 
 -- each of these files is as it was or has the front of its text, and every other file is as it was
 abbrev pub HasBegun : Outputs → Files → Files → Type 0
-HasBegun outputs old new = (name : List ℕ) → (new name ≡ old name) ⊎ HasFront (text_for outputs name) (new name)
+HasBegun outputs old new =
+    (name : List ℕ) → (new name ≡ old name) ⊎ HasFront (text_for outputs name) (new name)
 
 -- one of these files could not be written, unless memory is wanting
 abbrev pub IsUnwritten : List (List ℕ) → Type 0 → Unwritten → Type 0
 IsUnwritten names write_fault why.Memory = ⊤
-IsUnwritten names write_fault (why.File file) = IsTrue (list_any (λ known. bytes_eq known file) names) × write_fault
+IsUnwritten names write_fault (why.File file) =
+    IsTrue (list_any (λ known. bytes_eq known file) names) × write_fault

@@ -28,9 +28,12 @@ impl Model for Output {
 /// Makes these files, or empties those that are there, in their order.
 pub fn create_all<S: Shelf>(alloc: Global, shelf: &mut S, files: &[Name]) -> Result<(), Unwritten>
     requires { AllPairs (λ a b. a ≢ b) files.now }
-    ensures written { OnOk result (Changes (S.files shelf.old) (S.files shelf.new) (HasWritten (blank files.now))) }
-    ensures begun { OnErr result (Changes (S.files shelf.old) (S.files shelf.new) (HasBegun (blank files.now))) }
-    ensures stops { IfErr result (IsUnwritten files.now (Rose (S.write_faults shelf.old) (S.write_faults shelf.new))) }
+    ensures written { OnOk result
+        (Changes (S.files shelf.old) (S.files shelf.new) (HasWritten (blank files.now))) }
+    ensures begun { OnErr result
+        (Changes (S.files shelf.old) (S.files shelf.new) (HasBegun (blank files.now))) }
+    ensures stops { IfErr result
+        (IsUnwritten files.now (Rose (S.write_faults shelf.old) (S.write_faults shelf.new))) }
     ensures later { S.write_faults shelf.old ≤ S.write_faults shelf.new }
     ensures reads { S.read_faults shelf.new ≡ S.read_faults shelf.old }
 {
@@ -47,9 +50,13 @@ pub fn write_all<S: Shelf>(
     outputs: &[Output],
 ) -> Result<(), Unwritten>
     requires { AllPairs (λ a b. a ≢ b) (names_of outputs.now) }
-    ensures written { OnOk result (Changes (S.files shelf.old) (S.files shelf.new) (HasWritten outputs.now)) }
-    ensures begun { OnErr result (Changes (S.files shelf.old) (S.files shelf.new) (HasBegun outputs.now)) }
-    ensures stops { IfErr result (IsUnwritten (names_of outputs.now) (Rose (S.write_faults shelf.old) (S.write_faults shelf.new))) }
+    ensures written { OnOk result
+        (Changes (S.files shelf.old) (S.files shelf.new) (HasWritten outputs.now)) }
+    ensures begun { OnErr result
+        (Changes (S.files shelf.old) (S.files shelf.new) (HasBegun outputs.now)) }
+    ensures stops { IfErr result
+        (IsUnwritten (names_of outputs.now)
+        (Rose (S.write_faults shelf.old) (S.write_faults shelf.new))) }
     ensures later { S.write_faults shelf.old ≤ S.write_faults shelf.new }
     ensures reads { S.read_faults shelf.new ≡ S.read_faults shelf.old }
 {
@@ -67,9 +74,12 @@ pub fn append<S: Shelf>(
     text: &[u8],
 ) -> Result<(), Unwritten>
     requires { IfTold (S.files shelf.old) (λ f. f file.now ≡ Some []) }
-    ensures written { OnOk result (Changes (S.files shelf.old) (S.files shelf.new) (HasWritten ((file.now, text.now) ∷ []))) }
-    ensures begun { OnErr result (Changes (S.files shelf.old) (S.files shelf.new) (HasBegun ((file.now, text.now) ∷ []))) }
-    ensures stops { IfErr result (IsUnwritten (file.now ∷ []) (Rose (S.write_faults shelf.old) (S.write_faults shelf.new))) }
+    ensures written { OnOk result
+        (Changes (S.files shelf.old) (S.files shelf.new) (HasWritten ((file.now, text.now) ∷ []))) }
+    ensures begun { OnErr result
+        (Changes (S.files shelf.old) (S.files shelf.new) (HasBegun ((file.now, text.now) ∷ []))) }
+    ensures stops { IfErr result
+        (IsUnwritten (file.now ∷ []) (Rose (S.write_faults shelf.old) (S.write_faults shelf.new))) }
     ensures later { S.write_faults shelf.old ≤ S.write_faults shelf.new }
     ensures reads { S.read_faults shelf.new ≡ S.read_faults shelf.old }
 {
@@ -81,9 +91,12 @@ pub fn append<S: Shelf>(
 
 // Makes a file, or empties the one that is there.
 fn create<S: Shelf>(alloc: Global, shelf: &mut S, file: &Name) -> Result<(), Unwritten>
-    ensures written { OnOk result (Changes (S.files shelf.old) (S.files shelf.new) (HasWritten ((file.now, []) ∷ []))) }
-    ensures begun { OnErr result (Changes (S.files shelf.old) (S.files shelf.new) (HasBegun ((file.now, []) ∷ []))) }
-    ensures stops { IfErr result (IsUnwritten (file.now ∷ []) (Rose (S.write_faults shelf.old) (S.write_faults shelf.new))) }
+    ensures written { OnOk result
+        (Changes (S.files shelf.old) (S.files shelf.new) (HasWritten ((file.now, []) ∷ []))) }
+    ensures begun { OnErr result
+        (Changes (S.files shelf.old) (S.files shelf.new) (HasBegun ((file.now, []) ∷ []))) }
+    ensures stops { IfErr result
+        (IsUnwritten (file.now ∷ []) (Rose (S.write_faults shelf.old) (S.write_faults shelf.new))) }
     ensures later { S.write_faults shelf.old ≤ S.write_faults shelf.new }
     ensures reads { S.read_faults shelf.new ≡ S.read_faults shelf.old }
 {
@@ -100,9 +113,12 @@ pub fn write<S: Shelf>(
     file: &Name,
     text: &[u8],
 ) -> Result<(), Unwritten>
-    ensures written { OnOk result (Changes (S.files shelf.old) (S.files shelf.new) (HasWritten ((file.now, text.now) ∷ []))) }
-    ensures begun { OnErr result (Changes (S.files shelf.old) (S.files shelf.new) (HasBegun ((file.now, text.now) ∷ []))) }
-    ensures stops { IfErr result (IsUnwritten (file.now ∷ []) (Rose (S.write_faults shelf.old) (S.write_faults shelf.new))) }
+    ensures written { OnOk result
+        (Changes (S.files shelf.old) (S.files shelf.new) (HasWritten ((file.now, text.now) ∷ []))) }
+    ensures begun { OnErr result
+        (Changes (S.files shelf.old) (S.files shelf.new) (HasBegun ((file.now, text.now) ∷ []))) }
+    ensures stops { IfErr result
+        (IsUnwritten (file.now ∷ []) (Rose (S.write_faults shelf.old) (S.write_faults shelf.new))) }
     ensures later { S.write_faults shelf.old ≤ S.write_faults shelf.new }
     ensures reads { S.read_faults shelf.new ≡ S.read_faults shelf.old }
 {
@@ -112,9 +128,13 @@ pub fn write<S: Shelf>(
 
 // Makes a file with its text.
 fn write_output<S: Shelf>(alloc: Global, shelf: &mut S, output: &Output) -> Result<(), Unwritten>
-    ensures written { OnOk result (Changes (S.files shelf.old) (S.files shelf.new) (HasWritten (output.now ∷ []))) }
-    ensures begun { OnErr result (Changes (S.files shelf.old) (S.files shelf.new) (HasBegun (output.now ∷ []))) }
-    ensures stops { IfErr result (IsUnwritten (output.now.0 ∷ []) (Rose (S.write_faults shelf.old) (S.write_faults shelf.new))) }
+    ensures written { OnOk result
+        (Changes (S.files shelf.old) (S.files shelf.new) (HasWritten (output.now ∷ []))) }
+    ensures begun { OnErr result
+        (Changes (S.files shelf.old) (S.files shelf.new) (HasBegun (output.now ∷ []))) }
+    ensures stops { IfErr result
+        (IsUnwritten (output.now.0 ∷ [])
+        (Rose (S.write_faults shelf.old) (S.write_faults shelf.new))) }
     ensures later { S.write_faults shelf.old ≤ S.write_faults shelf.new }
     ensures reads { S.read_faults shelf.new ≡ S.read_faults shelf.old }
 {
