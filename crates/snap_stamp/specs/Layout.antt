@@ -1,4 +1,5 @@
--- Where the words of a table stand: eight words of a header, and then eight words for each row, from row 0.
+-- Where the words of a table stand: eight words of a header, and then eight words for each row,
+-- from row 0.
 use Rattle.std.specs.Prelude.{ℕ, ◌≡◌, ◌+◌, ◌*◌, ◌<◌, ◌≤◌}
 use Rattle.snap_stamp.specs.declared.layout.Field.{Field}
 use Rattle.snap_stamp.specs.declared.layout.Field.TheVariants.{Key, Birth, Stamp, Lock, Height, Left, Right, Value}
@@ -28,4 +29,5 @@ FieldsDiffer = (r q : ℕ) (f g : Field) → word_at r f ≡ word_at q g → (r 
 
 -- each field of each row stands behind the header and within the table
 abbrev pub RowsFit : Type 0
-RowsFit = (rows row : ℕ) (f : Field) → row ≤ rows → (8 ≤ word_at row f) × (word_at row f < words_of rows)
+RowsFit =
+    (rows row : ℕ) (f : Field) → row ≤ rows → (8 ≤ word_at row f) × (word_at row f < words_of rows)

@@ -1,5 +1,6 @@
--- A row's stamp as a number: four times its count, and its marks in the last two bits. So a stamp only grows
--- as its row goes through its life: a count, the same count shrinking, the next count, and at last unlinked.
+-- A row's stamp as a number: four times its count, and its marks in the last two bits. So a stamp
+-- only grows as its row goes through its life: a count, the same count shrinking, the next count,
+-- and at last unlinked.
 use Rattle.std.specs.Prelude.{ℕ, ◌≡◌, ◌+◌, ◌*◌, ◌/◌, ◌%◌, ◌==◌, Bool, if◌then◌else◌}
 
 -- how many rotations have lowered the row
@@ -28,7 +29,8 @@ IsUnmarked w = w % 4 ≡ 0
 
 -- the word of a stamp with this count and these marks
 abbrev pub stamp_of : ℕ → (shrinking unlinked : Bool) → ℕ
-stamp_of count shrinking unlinked = 4 * count + (if shrinking then 2 else 0) + (if unlinked then 1 else 0)
+stamp_of count shrinking unlinked =
+    4 * count + (if shrinking then 2 else 0) + (if unlinked then 1 else 0)
 
 -- each word is the stamp of its parts
 abbrev pub HaveParts : Type 0

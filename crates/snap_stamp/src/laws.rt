@@ -1,3 +1,4 @@
+//! Laws of stamps and of the layout: the contract of a function without a body is the law.
 ghost use Rattle.snap_stamp.specs.Stamps.{HaveParts};
 ghost use Rattle.snap_stamp.specs.Layout.{FieldsDiffer, RowsFit};
 

@@ -1,3 +1,4 @@
+//! Where each word of a table stands: a header, then the fields of row after row.
 ghost use Rattle.std.specs.Prelude.{◌≡◌};
 ghost use Rattle.snap_stamp.specs.Layout.{place_of, word_at, words_of};
 

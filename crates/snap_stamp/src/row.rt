@@ -1,3 +1,4 @@
+//! Row numbers. Rows are named by number, and not by address, so that a clone can share them and a word can hold one.
 ghost use Rattle.std.specs.Prelude.{◌≡◌, ◌↔◌, ℕ, IsTrue};
 
 use std::marker::Model;

@@ -1,7 +1,8 @@
+//! The two sides of a row. What is done on one side is written once, over a side, and so holds of its mirror image.
 ghost use Rattle.std.specs.Prelude.{◌≡◌, ◌≢◌};
-ghost use Rattle.snap_stamp.specs.Sides.{other, Toward};
+ghost use Rattle.snap_stamp.specs.Sides.{link_field, other, Toward};
 
-use crate::Key;
+use crate::{Field, Key};
 
 /// A side of a row: smaller keys stand on its left, greater ones on its right.
 #[derive(Clone, Copy, Debug, PartialEq, Eq)]
@@ -18,6 +19,16 @@ impl Side {
         match self {
             Side::Left => Side::Right,
             Side::Right => Side::Left,
+        }
+    }
+
+    /// The field of a row in which the link on this side stands.
+    pub fn link(self) -> Field
+        ensures { result ≡ link_field self }
+    {
+        match self {
+            Side::Left => Field::Left,
+            Side::Right => Field::Right,
         }
     }
 

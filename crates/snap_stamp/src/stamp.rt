@@ -1,3 +1,5 @@
+//! Stamps, the versions of rows. A stamp only grows as a number, so one that is found unchanged tells a reader that
+//! the row was not lowered or unlinked meanwhile.
 ghost use Rattle.std.specs.Prelude.{◌≡◌, ◌<◌, ◌↔◌, ◌+◌, ℕ, IsTrue, true, false};
 ghost use Rattle.snap_stamp.specs.Stamps.{IsUnmarked, IsShrinking, IsUnlinked, count_of, last_count, stamp_of};
 
@@ -44,6 +46,13 @@ impl Stamp {
         ensures { result ≡ count_of self }
     {
         self.0 / COUNT
+    }
+
+    /// Whether the stamp has neither mark.
+    pub fn is_unmarked(self) -> bool
+        ensures { IsTrue result ↔ IsUnmarked self }
+    {
+        self.0 % COUNT == 0
     }
 
     /// Whether a rotation is lowering the row.
