@@ -14,8 +14,8 @@ use Rattle.snap_model.specs.declared.command.Command.{Command}
 use Rattle.snap_model.specs.declared.command.Command.TheVariants as command
 use Rattle.snap_model.specs.declared.command.Reply.{Reply}
 use Rattle.snap_model.specs.declared.command.Reply.TheVariants as reply
-use Rattle.snap_fits.specs.Fits.{Setting, Front, Place, Clone, Matching, Told, CanBeDeep, TellsDepth, MeetsDepth, Stands, IsMade, MakesAll, MeetsWrite, MeetsLoad, moved, made_by, set_at, AtClone, entries_told, put_reply, remove_reply, value_reply, pair_reply, Meets, MeetsAll, start, next, export_at, export_of, exports_of}
-use Rattle.snap_fits.specs.Alone.{Maps, empty_maps, after_puts, WritesMap, LoadsMap, Answers, AnswersAll, copied_at, copied_by, AloneAnswers}
+use Rattle.snap_fits.specs.Fits.{Setting, Front, Place, Clone, Matching, Told, CanBeDeep, TellsDepth, MeetsDepth, HasMoment, IsNextEntry, MakesAll, MeetsWrite, MeetsLoad, moved, made_by, set_at, AtClone, entries_told, put_reply, remove_reply, value_reply, pair_reply, Meets, MeetsAll, start, next, export_at, export_of, exports_of}
+use Rattle.snap_fits.specs.Alone.{Maps, empty_maps, after_puts, WritesMap, LoadsMap, AnswersOne, AnswersAll, copied_at, copied_by, AloneAnswers}
 use Rattle.snap_fits.proofs.Prefixes.{take_seen}
 use Rattle.snap_fits.proofs.Steps.{put_tells, remove_tells}
 
@@ -63,16 +63,16 @@ record IsUpTo (f : Front) (p : Place) (m : Pairs) : Type 0 where
 
 module _ (w : ℕ) (f : Front) (legal : IsLegal f.history) (own : AllOwn w f.history) where
   -- a moment is the number of the entries that were met
-  moment_is : (p : Place) (made m : ℕ) → Stands f w p made m → m ≡ made
+  moment_is : (p : Place) (made m : ℕ) → HasMoment f w p made m → m ≡ made
   moment_is p made m h = sym (length-take-le m f.history h.within) ∙ sym (ap length (first_own w f.history m own)) ∙ h.entries
 
-  stays_at : (p : Place) (x : Pairs) (m cut : ℕ) → IsUpTo f p x → Stands f w p p.made m → IsUpTo f (moved p m 0 cut) x
+  stays_at : (p : Place) (x : Pairs) (m cut : ℕ) → IsUpTo f p x → HasMoment f w p p.made m → IsUpTo f (moved p m 0 cut) x
   stays_at p x m cut u h =
       let e : m ≡ p.made = moment_is p p.made m h in let g : p.made ≡ p.base = u.made in
       record { within = h.within; made = omega (arith, e, g); map = u.map ∙ ap (map_at f) (omega (arith, e, g)) }
 
   -- an entry that was met is the next one
-  made_at : (p : Place) (x : Pairs) (call : Call) (was : Option ℕ) (m : ℕ) → IsUpTo f p x → IsMade f w p call was m
+  made_at : (p : Place) (x : Pairs) (call : Call) (was : Option ℕ) (m : ℕ) → IsUpTo f p x → IsNextEntry f w p call was m
       → (was ≡ at x (call_key call)) × IsUpTo f (moved p m 1 0) (after_call x call)
   made_at p x call was m u h =
       let e : Entry = made_by w call was in
@@ -119,7 +119,7 @@ record Follows (fronts : ℕ → Front) (q : Matching) (a : Maps) : Type 0 where
 -- a command: its answer by plain maps, which then follow
 record Step (s : Setting) (fronts : ℕ → Front) (q : Matching) (a : Maps) (c : Command) (r : Reply) (m : ℕ) : Type 0 where
   maps : Maps
-  answers : Answers s a c r maps
+  answers : AnswersOne s a c r maps
   follows : Follows fronts (next s q c r m) maps
 
 set_here : {X : Type 0} (f : ℕ → X) (n i : ℕ) (x : X) → i ≡ n → set_at f n x i ≡ x
@@ -223,7 +223,7 @@ module _ (s : Setting) (w : ℕ) (fronts : ℕ → Front) (legal : (t : ℕ) →
   ]
 
   -- a command that leaves the entries as they are
-  still : (m cut : ℕ) → Stands (fronts q.in_use) w (q.places q.in_use) (q.places q.in_use).made m → IsUpTo (fronts q.in_use) (moved (q.places q.in_use) m 0 cut) (a.tables a.in_use)
+  still : (m cut : ℕ) → HasMoment (fronts q.in_use) w (q.places q.in_use) (q.places q.in_use).made m → IsUpTo (fronts q.in_use) (moved (q.places q.in_use) m 0 cut) (a.tables a.in_use)
   still m cut h = stays_at w (fronts q.in_use) (legal q.in_use) (own q.in_use) (q.places q.in_use) (a.tables a.in_use) m cut here h
 
   asks_step : (n m : ℕ) (P : Pairs → Type 0) → AtClone fronts (q.clones n) m P → (x : Pairs) × (a.clones n ≡ Some x) × P x × (a ≡ a)

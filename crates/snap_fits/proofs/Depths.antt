@@ -7,7 +7,7 @@ use Rattle.snap_model.specs.declared.command.Command.TheVariants as command
 use Rattle.snap_model.specs.declared.command.Reply.{Reply}
 use Rattle.snap_model.specs.declared.command.Reply.TheVariants as reply
 use Rattle.snap_fits.specs.Fits.{Setting, Front, Clone, Told, WorkerFits, MeetsDepth, Meets, MeetsAll, CanBeDeep, next, start}
-use Rattle.snap_fits.specs.Alone.{Maps, IsAlone, map_in_use, with_clone}
+use Rattle.snap_fits.specs.Alone.{Maps, IsAlone, map_in_use, with_copy_in}
 use Rattle.snap_fits.specs.Wrong.{OtherPairsFitNothing, TooDeepFitsNothing, CauselessFitsNothing, asked_for_the_depth, told_deep}
 use Rattle.snap_fits.proofs.Alone.{alone_answers}
 use Rattle.snap_fits.proofs.Wrong.{one, first_put}
@@ -18,7 +18,7 @@ told_of_one s w fronts depth pairs settled alone h =
     let x = alone_answers s w fronts _ _ _ alone h in
     let e : x.0 ≡ one = first_put x.0 x.1 in
     let y = x.4 in
-    let f : y.0 ≡ with_clone one 0 (Some (map_in_use one)) = y.1.1 ∙ ap (λ (b : Maps). with_clone b 0 (Some (map_in_use b))) e in
+    let f : y.0 ≡ with_copy_in one 0 (Some (map_in_use one)) = y.1.1 ∙ ap (λ (b : Maps). with_copy_in b 0 (Some (map_in_use b))) e in
     let v = y.4 in
     let same : Some (map_in_use one) ≡ Some v.1.0 = sym (ap (λ (b : Maps). b.clones 0) f) ∙ v.1.1 in
     let same_map : map_in_use one ≡ v.1.0 = cc in

@@ -2,9 +2,9 @@
 use Rattle.std.proofs.Common.{◌≡◌, ℕ, zero, suc, true, false, true≢false, [], ◌∷◌, Some, None, inl, refl, eqb, ne_eqb, arith}
 use Rattle.snap_model.specs.declared.call.Call.TheVariants.{Put}
 use Rattle.snap_fits.specs.Fits.{IsMatched, start, matching_after, made_by}
-use Rattle.snap_fits.specs.Example.{small, fronts, told, ExampleFits}
+use Rattle.snap_fits.specs.Example.{small, fronts, example_told, ExampleFits}
 
-matched_at : (t : ℕ) → IsMatched (fronts t) 0 (let m = matching_after small start told in m.places t)
+matched_at : (t : ℕ) → IsMatched (fronts t) 0 (let m = matching_after small start example_told in m.places t)
 matched_at zero = record { entries = refl; cuts = refl }
 matched_at (suc t) = let q : eqb (suc t) 0 ≡ false = ne_eqb (suc t) 0 (omega arith) in record { entries = simp q; cuts = simp q }
 

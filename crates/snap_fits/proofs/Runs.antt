@@ -13,8 +13,8 @@ use Rattle.snap_model.specs.declared.command.Command.TheVariants as command
 use Rattle.snap_model.specs.declared.command.Reply.{Reply}
 use Rattle.snap_model.specs.declared.command.Reply.TheVariants as reply
 use Rattle.snap_fits.specs.Fits.{Setting, Front, Place, Clone, Matching, Told, TellsDepth, IsDepth, MeetsDepth, MeetsWrite, MeetsGet, MeetsLoad, IsCut, moved, set_at, with_place, AtClone, entries_told, put_reply, remove_reply, value_reply, pair_reply, Meets, MeetsAll, matching_after, start, next, Fits, export_at, export_of, exports_of}
-use Rattle.snap_fits.specs.Sessions.{Track, Kept, Course, Reaches, ReachesAll, SameClone, AgreesAt, Agrees, SessionOk, Covers, exported, exported_from}
-use Rattle.snap_fits.specs.Steps.{GoesOn, Reads, Cuts, OnPass, Learns, SameClones, OneClone, WriteAnswers, LoadAnswers, Tells, Deep, DepthAnswers, Same, Steps}
+use Rattle.snap_fits.specs.Sessions.{Track, KeptClone, Course, MayReach, MayReachAll, SameClone, AgreesAt, Agrees, SessionOk, Covers, exported, exported_from}
+use Rattle.snap_fits.specs.Steps.{TrackGoesOn, TrackReads, TrackCuts, OnPass, Learns, SameClones, OneClone, WriteAnswers, LoadAnswers, OfKept, Deep, DepthAnswers, Same, Steps}
 use Rattle.snap_fits.specs.Laws.{ServedBegins, ServedGoesOn, ServedEnds}
 use Rattle.snap_fits.proofs.Prefixes.{begins_trans, begins_is, begins_length, take_seen}
 use Rattle.snap_fits.proofs.Lengths.{range_length, after_length}
@@ -28,8 +28,8 @@ line c r m = record { command = c; reply = r; moment = m }
 pub record Step (s : Setting) (w : ℕ) (q : Matching) (a : Course) (c : Command) (r : Reply) (b : Course) : Type 0 where
   pub moment : ℕ
   pub agrees : Agrees w (next s q c r moment) b
-  pub later : (t : ℕ) → GoesOn (a.passes t) (b.passes t)
-  pub meets : (fronts : ℕ → Front) → ReachesAll s w b fronts → Meets s w fronts q c r moment
+  pub later : (t : ℕ) → TrackGoesOn (a.passes t) (b.passes t)
+  pub meets : (fronts : ℕ → Front) → MayReachAll s w b fronts → Meets s w fronts q c r moment
 
 set_here : {X : Type 0} (f : ℕ → X) (n i : ℕ) (x : X) → i ≡ n → set_at f n x i ≡ x
 set_here f n i x e = rw (eq-eqb i n e)
@@ -38,27 +38,27 @@ set_there : {X : Type 0} (f : ℕ → X) (n i : ℕ) (x : X) → i ≢ n → set
 set_there f n i x e = let q : eqb i n ≡ false = ne_eqb i n e in rw q
 
 -- a clone stays the same clone
-clone_kept : (f g : ℕ → Track) (c : Option Clone) (v : Option Kept) → ((t : ℕ) → GoesOn (f t) (g t)) → SameClone f c v → SameClone g c v
+clone_kept : (f g : ℕ → Track) (c : Option Clone) (v : Option KeptClone) → ((t : ℕ) → TrackGoesOn (f t) (g t)) → SameClone f c v → SameClone g c v
 clone_kept f g None None l h = tt
 clone_kept f g (Some c) (Some v) l h = (h.0, h.1, begins_trans v.base (f v.table).seen (g v.table).seen h.2 (l v.table).seen, let low = h.3 in let on = (l v.table).handed in omega arith)
 clone_kept f g None (Some v) l h = absurd h
 clone_kept f g (Some c) None l h = absurd h
 
-clones_kept : (q : Matching) (a b : Course) → ((t : ℕ) → GoesOn (a.passes t) (b.passes t)) → SameClones a b → ((n : ℕ) → SameClone a.passes (q.clones n) (a.clones n)) → (n : ℕ) → SameClone b.passes (q.clones n) (b.clones n)
-clones_kept q a b l same h n = let P : Option Kept → Type 0 = λ v. SameClone b.passes (q.clones n) v in subst P (sym (same n)) (clone_kept a.passes b.passes (q.clones n) (a.clones n) l (h n))
+clones_kept : (q : Matching) (a b : Course) → ((t : ℕ) → TrackGoesOn (a.passes t) (b.passes t)) → SameClones a b → ((n : ℕ) → SameClone a.passes (q.clones n) (a.clones n)) → (n : ℕ) → SameClone b.passes (q.clones n) (b.clones n)
+clones_kept q a b l same h n = let P : Option KeptClone → Type 0 = λ v. SameClone b.passes (q.clones n) v in subst P (sym (same n)) (clone_kept a.passes b.passes (q.clones n) (a.clones n) l (h n))
 
 moment_of : Option Clone → ℕ
 moment_of None = 0
 moment_of (Some c) = c.moment
 
 -- the map at a clone's moment is that after its base
-map_then : (s : Setting) (w : ℕ) (a : Course) (c : Clone) (v : Kept) (fronts : ℕ → Front) → SameClone a.passes (Some c) (Some v) → ReachesAll s w a fronts → after (take c.moment (fronts c.table).history) ≡ after v.base
+map_then : (s : Setting) (w : ℕ) (a : Course) (c : Clone) (v : KeptClone) (fronts : ℕ → Front) → SameClone a.passes (Some c) (Some v) → MayReachAll s w a fronts → after (take c.moment (fronts c.table).history) ≡ after v.base
 map_then s w a c v fronts h r =
     let b : Begins v.base (fronts v.table).history = begins_trans v.base (a.passes v.table).seen (fronts v.table).history h.2 (r v.table).seen in
     ap (λ (i : ℕ). after (take c.moment (fronts i).history)) h.0 ∙ ap (λ (i : ℕ). after (take i (fronts v.table).history)) h.1 ∙ ap after (take_seen v.base (fronts v.table).history b)
 
 -- an answer of a clone is one of its moment
-at_clone : (s : Setting) (w : ℕ) (a : Course) (P : Pairs → Type 0) (c : Option Clone) (v : Option Kept) → SameClone a.passes c v → Tells v P → (fronts : ℕ → Front) → ReachesAll s w a fronts → AtClone fronts c (moment_of c) P
+at_clone : (s : Setting) (w : ℕ) (a : Course) (P : Pairs → Type 0) (c : Option Clone) (v : Option KeptClone) → SameClone a.passes c v → OfKept v P → (fronts : ℕ → Front) → MayReachAll s w a fronts → AtClone fronts c (moment_of c) P
 unfolding moment_of
 at_clone s w a P None None h t fronts r = absurd t
 at_clone s w a P None (Some v) h t fronts r = absurd h
@@ -74,18 +74,18 @@ agrees_same w q a b g h = record {
   clones = clones_kept q a b (λ t. later_is (a.passes t) (b.passes t) (h.passes t)) h.clones g.clones;
 }
 
-reaches_same : (s : Setting) (w : ℕ) (a b : Course) (fronts : ℕ → Front) → ((t : ℕ) → b.passes t ≡ a.passes t) → ReachesAll s w b fronts → ReachesAll s w a fronts
-reaches_same s w a b fronts h r t = let P : Track → Type 0 = λ x. Reaches s w x (fronts t) in subst P (h t) (r t)
+reaches_same : (s : Setting) (w : ℕ) (a b : Course) (fronts : ℕ → Front) → ((t : ℕ) → b.passes t ≡ a.passes t) → MayReachAll s w b fronts → MayReachAll s w a fronts
+reaches_same s w a b fronts h r t = let P : Track → Type 0 = λ x. MayReach s w x (fronts t) in subst P (h t) (r t)
 
 module _ (s : Setting) (w : ℕ) (q : Matching) (a b : Course) (g : Agrees w q a) where
   -- an answer of a clone
-  tells_step : (n : ℕ) (P : Pairs → Type 0) → Same a b × Tells (a.clones n) P → (fronts : ℕ → Front) → ReachesAll s w b fronts → AtClone fronts (q.clones n) (moment_of (q.clones n)) P
+  tells_step : (n : ℕ) (P : Pairs → Type 0) → Same a b × OfKept (a.clones n) P → (fronts : ℕ → Front) → MayReachAll s w b fronts → AtClone fronts (q.clones n) (moment_of (q.clones n)) P
   tells_step n P h fronts r = at_clone s w a P (q.clones n) (a.clones n) (g.clones n) h.1 fronts (reaches_same s w a b fronts h.0.passes r)
 
   same_agrees : Same a b → Agrees w q b
   same_agrees h = agrees_same w q a b g h
 
-  same_later : Same a b → (t : ℕ) → GoesOn (a.passes t) (b.passes t)
+  same_later : Same a b → (t : ℕ) → TrackGoesOn (a.passes t) (b.passes t)
   same_later h t = later_is (a.passes t) (b.passes t) (h.passes t)
 
   -- a command on the table in use: its pass, at the place of that table
@@ -94,9 +94,9 @@ module _ (s : Setting) (w : ℕ) (q : Matching) (a b : Course) (g : Agrees w q a
     here_used = let F : ℕ → Type 0 = λ u. P (a.passes u) (b.passes u) in subst F (sym g.in_use) h.here
 
     module _ (made cut : ℕ) (M : Front → ℕ → Type 0) (x : PassStep s w (q.places q.in_use) (a.passes q.in_use) (b.passes q.in_use) made cut M) where
-      used_later : (t : ℕ) → GoesOn (a.passes t) (b.passes t)
+      used_later : (t : ℕ) → TrackGoesOn (a.passes t) (b.passes t)
       used_later t = dite (ℕ_discrete t q.in_use)
-          (λ e. let F : ℕ → Type 0 = λ u. GoesOn (a.passes u) (b.passes u) in subst F (sym e) x.later)
+          (λ e. let F : ℕ → Type 0 = λ u. TrackGoesOn (a.passes u) (b.passes u) in subst F (sym e) x.later)
           (λ n. later_is (a.passes t) (b.passes t) (h.others t (λ e. n (e ∙ sym g.in_use))))
 
       used_places : (t : ℕ) → AgreesAt w (set_at q.places q.in_use (moved (q.places q.in_use) x.moment made cut) t) (b.passes t)
@@ -116,18 +116,18 @@ module _ (s : Setting) (w : ℕ) (q : Matching) (a b : Course) (g : Agrees w q a
       }
 
 -- the clones after one slot changed
-one_clone : (q : Matching) (a b : Course) (n : ℕ) (c : Option Clone) (v : Option Kept) → ((t : ℕ) → GoesOn (a.passes t) (b.passes t)) → ((i : ℕ) → SameClone a.passes (q.clones i) (a.clones i)) → SameClone b.passes c v → OneClone a b n v → (i : ℕ) → SameClone b.passes (set_at q.clones n c i) (b.clones i)
+one_clone : (q : Matching) (a b : Course) (n : ℕ) (c : Option Clone) (v : Option KeptClone) → ((t : ℕ) → TrackGoesOn (a.passes t) (b.passes t)) → ((i : ℕ) → SameClone a.passes (q.clones i) (a.clones i)) → SameClone b.passes c v → OneClone a b n v → (i : ℕ) → SameClone b.passes (set_at q.clones n c i) (b.clones i)
 one_clone q a b n c v l h here o i = dite (ℕ_discrete i n)
     (λ e. let F : Option Clone → Type 0 = λ x. SameClone b.passes x (b.clones i) in
-    let G : Option Kept → Type 0 = λ x. SameClone b.passes c x in
+    let G : Option KeptClone → Type 0 = λ x. SameClone b.passes c x in
     subst F (sym (set_here q.clones n i c e)) (subst G (sym (ap b.clones e ∙ o.0)) here))
     (λ d. let F : Option Clone → Type 0 = λ x. SameClone b.passes x (b.clones i) in
-    let G : Option Kept → Type 0 = λ x. SameClone b.passes (q.clones i) x in
+    let G : Option KeptClone → Type 0 = λ x. SameClone b.passes (q.clones i) x in
     subst F (sym (set_there q.clones n i c d)) (subst G (sym (o.1 i d)) (clone_kept a.passes b.passes (q.clones i) (a.clones i) l (h i))))
 
 -- a count of no more pairs than there were writes
-counted : (s : Setting) (w : ℕ) (a : Course) (lo hi : ℕ) (r : Reply) (v : Option Kept) → Tells v (λ map. r ≡ reply.Count (min (length (range map lo hi)) (2 ^ 64 - 1)))
-    → (c : Option Clone) → SameClone a.passes c v → (fronts : ℕ → Front) → ReachesAll s w a fronts → Tells v (λ map. r ≡ reply.Count (length (range map lo hi)))
+counted : (s : Setting) (w : ℕ) (a : Course) (lo hi : ℕ) (r : Reply) (v : Option KeptClone) → OfKept v (λ map. r ≡ reply.Count (min (length (range map lo hi)) (2 ^ 64 - 1)))
+    → (c : Option Clone) → SameClone a.passes c v → (fronts : ℕ → Front) → MayReachAll s w a fronts → OfKept v (λ map. r ≡ reply.Count (length (range map lo hi)))
 counted s w a lo hi r None t c h fronts z = absurd t
 counted s w a lo hi r (Some v) t None h fronts z = absurd h
 counted s w a lo hi r (Some v) t (Some c) h fronts z =
@@ -138,29 +138,29 @@ counted s w a lo hi r (Some v) t (Some c) h fronts z =
     t ∙ ap reply.Count (omega (arith, u, m, b, few))
 
 module _ (s : Setting) (w : ℕ) (q : Matching) (a b : Course) (g : Agrees w q a) where
-  count_step : (n lo hi : ℕ) (r : Reply) → Same a b × Tells (a.clones n) (λ map. r ≡ reply.Count (min (length (range map lo hi)) (2 ^ 64 - 1))) → (fronts : ℕ → Front) → ReachesAll s w b fronts → AtClone fronts (q.clones n) (moment_of (q.clones n)) (λ map. r ≡ reply.Count (length (range map lo hi)))
+  count_step : (n lo hi : ℕ) (r : Reply) → Same a b × OfKept (a.clones n) (λ map. r ≡ reply.Count (min (length (range map lo hi)) (2 ^ 64 - 1))) → (fronts : ℕ → Front) → MayReachAll s w b fronts → AtClone fronts (q.clones n) (moment_of (q.clones n)) (λ map. r ≡ reply.Count (length (range map lo hi)))
   count_step n lo hi r h fronts z =
       let y = reaches_same s w a b fronts h.0.passes z in
       at_clone s w a (λ map. r ≡ reply.Count (length (range map lo hi))) (q.clones n) (a.clones n) (g.clones n) (counted s w a lo hi r (a.clones n) h.1 (q.clones n) (g.clones n) fronts y) fronts y
 
 -- the depth of a clone
-depth_later : (s : Setting) (a b : Course) (v : Option Kept) (r : Reply) → DepthAnswers s a v r b → (t : ℕ) → GoesOn (a.passes t) (b.passes t)
+depth_later : (s : Setting) (a b : Course) (v : Option KeptClone) (r : Reply) → DepthAnswers s a v r b → (t : ℕ) → TrackGoesOn (a.passes t) (b.passes t)
 depth_later s a b None r h t = absurd h
 depth_later s a b (Some v) r h t = dite (ℕ_discrete t v.table)
-    (λ e. let P : ℕ → Type 0 = λ u. GoesOn (a.passes u) (b.passes u) in subst P (sym e) h.0.here.on)
+    (λ e. let P : ℕ → Type 0 = λ u. TrackGoesOn (a.passes u) (b.passes u) in subst P (sym e) h.0.here.on)
     (λ n. later_is (a.passes t) (b.passes t) (h.0.others t n))
 
-depth_place : (s : Setting) (w : ℕ) (p : Place) (a b : Course) (v : Option Kept) (r : Reply) → DepthAnswers s a v r b → (t : ℕ) → AgreesAt w p (a.passes t) → AgreesAt w p (b.passes t)
+depth_place : (s : Setting) (w : ℕ) (p : Place) (a b : Course) (v : Option KeptClone) (r : Reply) → DepthAnswers s a v r b → (t : ℕ) → AgreesAt w p (a.passes t) → AgreesAt w p (b.passes t)
 depth_place s w p a b None r h t g = absurd h
 depth_place s w p a b (Some v) r h t g = dite (ℕ_discrete t v.table)
     (λ e. agrees_learnt w p (a.passes t) (b.passes t) g (let P : ℕ → Type 0 = λ u. Learns (a.passes u) (b.passes u) in subst P (sym e) h.0.here))
     (λ n. let P : Track → Type 0 = λ x. AgreesAt w p x in subst P (sym (h.0.others t n)) g)
 
-depth_in_use : (s : Setting) (a b : Course) (v : Option Kept) (r : Reply) → DepthAnswers s a v r b → b.in_use ≡ a.in_use
+depth_in_use : (s : Setting) (a b : Course) (v : Option KeptClone) (r : Reply) → DepthAnswers s a v r b → b.in_use ≡ a.in_use
 depth_in_use s a b None r h = absurd h
 depth_in_use s a b (Some v) r h = h.0.in_use
 
-deep_is : (s : Setting) (w : ℕ) (v : Kept) (pass : Track) (f : Front) (depth : ℕ) (settled : Bool) → v.next ≤ pass.handed → Reaches s w pass f → Deep s v pass depth settled → IsDepth s f (length (after v.base)) depth settled
+deep_is : (s : Setting) (w : ℕ) (v : KeptClone) (pass : Track) (f : Front) (depth : ℕ) (settled : Bool) → v.next ≤ pass.handed → MayReach s w pass f → Deep s v pass depth settled → IsDepth s f (length (after v.base)) depth settled
 deep_is s w v pass f depth settled noted r h =
     let over : pass.handed ≤ f.drawn = r.handed in
     let top : f.drawn ≤ s.rows = r.rows in
@@ -174,7 +174,7 @@ deep_is s w v pass f depth settled noted r h =
       ];
     }
 
-depth_at : (s : Setting) (w : ℕ) (a b : Course) (c : Option Clone) (v : Option Kept) (r : Reply) → SameClone b.passes c v → DepthAnswers s a v r b → (fronts : ℕ → Front) → ReachesAll s w b fronts → MeetsDepth s fronts c r (moment_of c)
+depth_at : (s : Setting) (w : ℕ) (a b : Course) (c : Option Clone) (v : Option KeptClone) (r : Reply) → SameClone b.passes c v → DepthAnswers s a v r b → (fronts : ℕ → Front) → MayReachAll s w b fronts → MeetsDepth s fronts c r (moment_of c)
 unfolding moment_of
 depth_at s w a b None None r h t fronts z = absurd t
 depth_at s w a b None (Some v) r h t fronts z = absurd h
@@ -189,7 +189,7 @@ depth_at s w a b (Some c) (Some v) r h t fronts z =
 
 depth_step : (s : Setting) (w : ℕ) (q : Matching) (a b : Course) (n : ℕ) (r : Reply) → Agrees w q a → DepthAnswers s a (a.clones n) r b → SameClones a b → Step s w q a (command.Depth n) r b
 depth_step s w q a b n r g h same =
-    let later : (t : ℕ) → GoesOn (a.passes t) (b.passes t) = depth_later s a b (a.clones n) r h in
+    let later : (t : ℕ) → TrackGoesOn (a.passes t) (b.passes t) = depth_later s a b (a.clones n) r h in
     record {
       moment = moment_of (q.clones n);
       agrees = record {
@@ -214,10 +214,10 @@ step_of s w q a b (command.Remove k) r g h =
     let x : PassStep s w (q.places q.in_use) (a.passes q.in_use) (b.passes q.in_use) (entries_told r) 0 M = write_step s w (q.places q.in_use) (a.passes q.in_use) (b.passes q.in_use) (Remove k) remove_reply r remove_tells (g.places q.in_use) (here_used s w q a b g P h.0) in
     record { moment = x.moment; agrees = used_agrees s w q a b g P h.0 (entries_told r) 0 M x h.1; later = used_later s w q a b g P h.0 (entries_told r) 0 M x; meets = λ fronts z. x.meets (fronts q.in_use) (z q.in_use) }
 step_of s w q a b (command.Get k) r g h =
-    let P : Track → Track → Type 0 = λ old new. Reads old new k h.0.0 in
+    let P : Track → Track → Type 0 = λ old new. TrackReads old new k h.0.0 in
     let M : Front → ℕ → Type 0 = λ f m. MeetsGet f w (q.places q.in_use) k (value_reply h.0.0) m in
     let x : PassStep s w (q.places q.in_use) (a.passes q.in_use) (b.passes q.in_use) 0 0 M = get_step s w (q.places q.in_use) (a.passes q.in_use) (b.passes q.in_use) k h.0.0 (g.places q.in_use) (here_used s w q a b g P h.0.2) in
-    let R : Reply → Type 0 = λ t. (fronts : ℕ → Front) → ReachesAll s w b fronts → MeetsGet (fronts q.in_use) w (q.places q.in_use) k t x.moment in
+    let R : Reply → Type 0 = λ t. (fronts : ℕ → Front) → MayReachAll s w b fronts → MeetsGet (fronts q.in_use) w (q.places q.in_use) k t x.moment in
     record { moment = x.moment; agrees = used_agrees s w q a b g P h.0.2 0 0 M x h.1; later = used_later s w q a b g P h.0.2 0 0 M x; meets = subst R (sym h.0.1) (λ fronts z. x.meets (fronts q.in_use) (z q.in_use)) }
 step_of s w q a b (command.Load file) r g h =
     let P : Track → Track → Type 0 = LoadAnswers s.rows (s.pairs file) r in
@@ -227,11 +227,11 @@ step_of s w q a b (command.Load file) r g h =
 step_of s w q a b (command.Snap n name) r g h =
     let base : List Entry = h.1 in
     let counted : ℕ = h.2 in
-    let P : Track → Track → Type 0 = λ old new. Cuts old new base counted in
+    let P : Track → Track → Type 0 = λ old new. TrackCuts old new base counted in
     let M : Front → ℕ → Type 0 = λ f m. IsCut f w (q.places q.in_use) m in
-    let k : Cuts (a.passes q.in_use) (b.passes q.in_use) base counted = here_used s w q a b g P h.3 in
+    let k : TrackCuts (a.passes q.in_use) (b.passes q.in_use) base counted = here_used s w q a b g P h.3 in
     let x : PassStep s w (q.places q.in_use) (a.passes q.in_use) (b.passes q.in_use) 0 1 M = cut_step s w (q.places q.in_use) (a.passes q.in_use) (b.passes q.in_use) base counted (g.places q.in_use) k in
-    let l : (t : ℕ) → GoesOn (a.passes t) (b.passes t) = used_later s w q a b g P h.3 0 1 M x in
+    let l : (t : ℕ) → TrackGoesOn (a.passes t) (b.passes t) = used_later s w q a b g P h.3 0 1 M x in
     record {
       moment = length (b.passes q.in_use).seen;
       agrees = record {
@@ -244,7 +244,7 @@ step_of s w q a b (command.Snap n name) r g h =
       meets = λ fronts z. (h.0, x.meets (fronts q.in_use) (z q.in_use));
     }
 step_of s w q a b (command.Forget n name) r g h =
-    let l : (t : ℕ) → GoesOn (a.passes t) (b.passes t) = λ t. later_is (a.passes t) (b.passes t) (h.3 t) in
+    let l : (t : ℕ) → TrackGoesOn (a.passes t) (b.passes t) = λ t. later_is (a.passes t) (b.passes t) (h.3 t) in
     record {
       moment = moment_of (q.clones n);
       agrees = record {
@@ -256,7 +256,7 @@ step_of s w q a b (command.Forget n name) r g h =
       meets = λ fronts z. (h.0, at_clone s w a (λ _. Unit {0}) (q.clones n) (a.clones n) (g.clones n) h.1 fronts (reaches_same s w a b fronts h.3 z));
     }
 step_of s w q a b (command.Table name) r g h =
-    let l : (t : ℕ) → GoesOn (a.passes t) (b.passes t) = λ t. later_is (a.passes t) (b.passes t) (h.2 t) in
+    let l : (t : ℕ) → TrackGoesOn (a.passes t) (b.passes t) = λ t. later_is (a.passes t) (b.passes t) (h.2 t) in
     record {
       moment = (q.places (s.table name)).base;
       agrees = record {
@@ -293,14 +293,14 @@ exports_more s fronts q (x ∷ ts) t =
     ap (λ (l : List (List ℕ × Pairs)). export_of fronts q x.command ++ l) (exports_more s fronts (next s q x.command x.reply x.moment) ts t)
     ∙ sym (append_assoc (export_of fronts q x.command) (exports_of s fronts (next s q x.command x.reply x.moment) ts) (export_of fronts (matching_after s (next s q x.command x.reply x.moment) ts) t.command))
 
-same_export : (s : Setting) (w : ℕ) (a : Course) (c : Option Clone) (v : Option Kept) (lo hi : ℕ) (file : List ℕ) (fronts : ℕ → Front) → SameClone a.passes c v → ReachesAll s w a fronts → export_at fronts c lo hi file ≡ exported_from v lo hi file
+same_export : (s : Setting) (w : ℕ) (a : Course) (c : Option Clone) (v : Option KeptClone) (lo hi : ℕ) (file : List ℕ) (fronts : ℕ → Front) → SameClone a.passes c v → MayReachAll s w a fronts → export_at fronts c lo hi file ≡ exported_from v lo hi file
 same_export s w a None None lo hi file fronts h r = refl
 same_export s w a None (Some v) lo hi file fronts h r = absurd h
 same_export s w a (Some c) None lo hi file fronts h r = absurd h
 same_export s w a (Some c) (Some v) lo hi file fronts h r =
     ap (λ (m : Pairs). (file, range m lo hi) ∷ []) (map_then s w a c v fronts h r)
 
-one_export : (s : Setting) (w : ℕ) (q : Matching) (a : Course) (c : Command) (fronts : ℕ → Front) → Agrees w q a → ReachesAll s w a fronts → export_of fronts q c ≡ exported a c
+one_export : (s : Setting) (w : ℕ) (q : Matching) (a : Course) (c : Command) (fronts : ℕ → Front) → Agrees w q a → MayReachAll s w a fronts → export_of fronts q c ≡ exported a c
 one_export s w q a (command.Export n lo hi file) fronts g r = same_export s w a (q.clones n) (a.clones n) lo hi file fronts (g.clones n) r
 one_export s w q a (command.Table name) fronts g r = refl
 one_export s w q a (command.Put k v) fronts g r = refl
@@ -324,7 +324,7 @@ goes_on s w told es a b c r ok h =
     let q : Matching = matching_after s start told in
     let x : Step s w q a c r b = step_of s w q a b c r ok.agrees h in
     let P : Matching → Type 0 = λ z. Agrees w z b in
-    let back : (fronts : ℕ → Front) → ReachesAll s w b fronts → ReachesAll s w a fronts = λ fronts z t. reaches_back s w (a.passes t) (b.passes t) (fronts t) (x.later t) (z t) in (
+    let back : (fronts : ℕ → Front) → MayReachAll s w b fronts → MayReachAll s w a fronts = λ fronts z t. reaches_back s w (a.passes t) (b.passes t) (fronts t) (x.later t) (z t) in (
       x.moment,
       record {
         agrees = subst P (sym (after_more s start told (line c r x.moment))) x.agrees;
@@ -349,7 +349,7 @@ served_begins s w a h = record {
         made = sym (ap length (h.mine t));
         cut = sym (ap length (h.cuts t));
       };
-      clones = λ n. let P : Option Kept → Type 0 = λ v. SameClone a.passes None v in subst P (sym (h.clones n)) tt;
+      clones = λ n. let P : Option KeptClone → Type 0 = λ v. SameClone a.passes None v in subst P (sym (h.clones n)) tt;
     };
     meets = λ fronts r. tt;
     exported = λ fronts r. refl;

@@ -4,7 +4,7 @@ use Rattle.snap_model.specs.SortedMap.{Pairs, at}
 use Rattle.snap_model.specs.declared.call.Call.TheVariants.{Put}
 use Rattle.snap_model.specs.declared.command.Reply.TheVariants as reply
 use Rattle.snap_fits.specs.Fits.{put_reply, value_reply}
-use Rattle.snap_fits.specs.Alone.{Maps, empty_maps, map_in_use, with_map, with_clone, WritesMap}
+use Rattle.snap_fits.specs.Alone.{Maps, empty_maps, map_in_use, with_map, with_copy_in, WritesMap}
 use Rattle.snap_fits.specs.Wrong.{NewValueFitsNothing, OlderGetFitsNothing, StaleCloneFitsNothing}
 use Rattle.snap_fits.proofs.Alone.{alone_answers}
 
@@ -35,7 +35,7 @@ stale_clone s w fronts alone h =
     let x = alone_answers s w fronts _ _ _ alone h in
     let e : x.0 ≡ one = first_put x.0 x.1 in
     let y = x.4 in
-    let f : y.0 ≡ with_clone one 0 (Some (map_in_use one)) = y.1.1 ∙ ap (λ (b : Maps). with_clone b 0 (Some (map_in_use b))) e in
+    let f : y.0 ≡ with_copy_in one 0 (Some (map_in_use one)) = y.1.1 ∙ ap (λ (b : Maps). with_copy_in b 0 (Some (map_in_use b))) e in
     let v = y.4 in
     let same : Some (map_in_use one) ≡ Some v.1.0 = sym (ap (λ (b : Maps). b.clones 0) f) ∙ v.1.1 in
     let map : map_in_use one ≡ v.1.0 = cc in

@@ -1,4 +1,5 @@
--- A worker that has the tables for itself: one sorted map for each table, and copies of these maps as clones.
+-- A worker that has the tables for itself: one sorted map for each table, and copies of these maps
+-- as clones.
 use Rattle.std.specs.Prelude.{◌≡◌, ◌≢◌, ◌<◌, ◌⊎◌, ◌++◌, ℕ, List, [], ◌∷◌, Option, Some, None, length, take}
 use Rattle.snap_model.specs.History.{IsLegal, after_call, call_key, calls_of}
 use Rattle.snap_model.specs.SortedMap.{Pairs, after_put, at, first_pair, last_pair, range, floor, lower, ceiling, higher}
@@ -25,48 +26,57 @@ map_in_use a = a.tables a.in_use
 abbrev pub with_map : Maps → Pairs → Maps
 with_map a m = record a { tables = set_at a.tables a.in_use m }
 
-abbrev pub with_clone : Maps → ℕ → Option Pairs → Maps
-with_clone a n c = record a { clones = set_at a.clones n c }
+abbrev pub with_copy_in : Maps → ℕ → Option Pairs → Maps
+with_copy_in a n c = record a { clones = set_at a.clones n c }
 
 -- a map after puts in their order
 abbrev pub after_puts : Pairs → Pairs → Pairs
 after_puts m [] = m
 after_puts m (x ∷ xs) = after_puts (after_put m x.0 x.1) xs
 
--- a write is answered by what stood at its key, and is made; or it is refused as full, and nothing has changed
+-- a write is answered by what stood at its key, and is made; or it is refused as full, and nothing
+-- has changed
 abbrev pub WritesMap : Maps → Call → (Option ℕ → Reply) → Reply → Maps → Type 0
 WritesMap a call reply_of r b =
-    ((r ≡ reply_of (at (map_in_use a) (call_key call))) × (b ≡ with_map a (after_call (map_in_use a) call))) ⊎ ((r ≡ reply.Full) × (b ≡ a))
+    ((r ≡ reply_of (at (map_in_use a) (call_key call)))
+    × (b ≡ with_map a (after_call (map_in_use a) call)))
+    ⊎ ((r ≡ reply.Full) × (b ≡ a))
 
 -- a load puts all its pairs, or so many as it tells
 abbrev pub LoadsMap : Maps → Pairs → Reply → Maps → Type 0
 LoadsMap a xs r b =
     ((r ≡ reply.Loaded (length xs)) × (b ≡ with_map a (after_puts (map_in_use a) xs)))
-    ⊎ ((n : ℕ) × (n < length xs) × (r ≡ reply.FullAfter n) × (b ≡ with_map a (after_puts (map_in_use a) (take n xs))))
+    ⊎ ((n : ℕ) × (n < length xs) × (r ≡ reply.FullAfter n)
+    × (b ≡ with_map a (after_puts (map_in_use a) (take n xs))))
 
 -- a question to the copy in a slot
-abbrev pub Asks : Maps → ℕ → Maps → (Pairs → Type 0) → Type 0
-Asks a n b P = (m : Pairs) × (a.clones n ≡ Some m) × P m × (b ≡ a)
+abbrev pub AsksCopy : Maps → ℕ → Maps → (Pairs → Type 0) → Type 0
+AsksCopy a n b P = (m : Pairs) × (a.clones n ≡ Some m) × P m × (b ≡ a)
 
 -- what a command replies, and the maps after it
-abbrev pub Answers : Setting → Maps → Command → Reply → Maps → Type 0
-Answers s a (command.Table name) r b = (r ≡ reply.Using) × (b ≡ record a { in_use = s.table name })
-Answers s a (command.Put k v) r b = WritesMap a (Put k v) put_reply r b
-Answers s a (command.Remove k) r b = WritesMap a (Remove k) remove_reply r b
-Answers s a (command.Get k) r b = (r ≡ value_reply (at (map_in_use a) k)) × (b ≡ a)
-Answers s a (command.Load file) r b = LoadsMap a (s.pairs file) r b
-Answers s a (command.Snap n name) r b = (r ≡ reply.Snapped) × (b ≡ with_clone a n (Some (map_in_use a)))
-Answers s a (command.Forget n name) r b = (r ≡ reply.Forgotten) × (b ≡ with_clone a n None)
-Answers s a (command.See n k) r b = Asks a n b (λ map. r ≡ value_reply (at map k))
-Answers s a (command.First n) r b = Asks a n b (λ map. r ≡ pair_reply (first_pair map))
-Answers s a (command.Last n) r b = Asks a n b (λ map. r ≡ pair_reply (last_pair map))
-Answers s a (command.Floor n k) r b = Asks a n b (λ map. r ≡ pair_reply (floor map k))
-Answers s a (command.Lower n k) r b = Asks a n b (λ map. r ≡ pair_reply (lower map k))
-Answers s a (command.Ceiling n k) r b = Asks a n b (λ map. r ≡ pair_reply (ceiling map k))
-Answers s a (command.Higher n k) r b = Asks a n b (λ map. r ≡ pair_reply (higher map k))
-Answers s a (command.Count n lo hi) r b = Asks a n b (λ map. r ≡ reply.Count (length (range map lo hi)))
-Answers s a (command.Export n lo hi file) r b = Asks a n b (λ map. r ≡ reply.Exported (length (range map lo hi)))
-Answers s a (command.Depth n) r b = Asks a n b (λ map. TellsDepth r (length map) (CanBeDeep (length map)))
+abbrev pub AnswersOne : Setting → Maps → Command → Reply → Maps → Type 0
+AnswersOne s a (command.Table name) r b =
+    (r ≡ reply.Using) × (b ≡ record a { in_use = s.table name })
+AnswersOne s a (command.Put k v) r b = WritesMap a (Put k v) put_reply r b
+AnswersOne s a (command.Remove k) r b = WritesMap a (Remove k) remove_reply r b
+AnswersOne s a (command.Get k) r b = (r ≡ value_reply (at (map_in_use a) k)) × (b ≡ a)
+AnswersOne s a (command.Load file) r b = LoadsMap a (s.pairs file) r b
+AnswersOne s a (command.Snap n name) r b =
+    (r ≡ reply.Snapped) × (b ≡ with_copy_in a n (Some (map_in_use a)))
+AnswersOne s a (command.Forget n name) r b = (r ≡ reply.Forgotten) × (b ≡ with_copy_in a n None)
+AnswersOne s a (command.See n k) r b = AsksCopy a n b (λ map. r ≡ value_reply (at map k))
+AnswersOne s a (command.First n) r b = AsksCopy a n b (λ map. r ≡ pair_reply (first_pair map))
+AnswersOne s a (command.Last n) r b = AsksCopy a n b (λ map. r ≡ pair_reply (last_pair map))
+AnswersOne s a (command.Floor n k) r b = AsksCopy a n b (λ map. r ≡ pair_reply (floor map k))
+AnswersOne s a (command.Lower n k) r b = AsksCopy a n b (λ map. r ≡ pair_reply (lower map k))
+AnswersOne s a (command.Ceiling n k) r b = AsksCopy a n b (λ map. r ≡ pair_reply (ceiling map k))
+AnswersOne s a (command.Higher n k) r b = AsksCopy a n b (λ map. r ≡ pair_reply (higher map k))
+AnswersOne s a (command.Count n lo hi) r b =
+    AsksCopy a n b (λ map. r ≡ reply.Count (length (range map lo hi)))
+AnswersOne s a (command.Export n lo hi file) r b =
+    AsksCopy a n b (λ map. r ≡ reply.Exported (length (range map lo hi)))
+AnswersOne s a (command.Depth n) r b =
+    AsksCopy a n b (λ map. TellsDepth r (length map) (CanBeDeep (length map)))
 
 -- the pairs that a command exports, by its file
 abbrev pub copied_at : Option Pairs → ℕ → ℕ → List ℕ → List (List ℕ × Pairs)
@@ -82,7 +92,11 @@ abbrev pub AnswersAll : Setting → Maps → List Command → List Reply → Lis
 AnswersAll s a [] [] es = es ≡ []
 AnswersAll s a [] (r ∷ rs) es = ⊥
 AnswersAll s a (c ∷ cs) [] es = ⊥
-AnswersAll s a (c ∷ cs) (r ∷ rs) es = (b : Maps) × Answers s a c r b × (more : List (List ℕ × Pairs)) × (es ≡ copied_by a c ++ more) × AnswersAll s b cs rs more
+AnswersAll s a (c ∷ cs) (r ∷ rs) es = (b : Maps)
+    × AnswersOne s a c r b
+    × (more : List (List ℕ × Pairs))
+    × (es ≡ copied_by a c ++ more)
+    × AnswersAll s b cs rs more
 
 -- legal histories with entries of this number alone
 pub record IsAlone (w : ℕ) (fronts : ℕ → Front) : Type 0 where
@@ -91,5 +105,6 @@ pub record IsAlone (w : ℕ) (fronts : ℕ → Front) : Type 0 where
 
 -- The sequential meaning: a worker that is alone is answered as by plain maps.
 abbrev pub AloneAnswers : Type 0
-AloneAnswers = (s : Setting) (w : ℕ) (fronts : ℕ → Front) (cs : List Command) (rs : List Reply) (es : List (List ℕ × Pairs)) →
-    IsAlone w fronts → WorkerFits s fronts w cs rs es → AnswersAll s empty_maps cs rs es
+AloneAnswers = (s : Setting) (w : ℕ) (fronts : ℕ → Front) (cs : List Command) (rs : List Reply)
+    (es : List (List ℕ × Pairs))
+    → IsAlone w fronts → WorkerFits s fronts w cs rs es → AnswersAll s empty_maps cs rs es

@@ -16,14 +16,23 @@ cuts zero = 2 ∷ []
 cuts (suc w) = []
 
 abbrev pub fronts : ℕ → Front
-fronts zero = record { history = made_by 1 (Put 7 9) None ∷ made_by 0 (Put 7 5) (Some 9) ∷ made_by 0 (Remove 3) None ∷ []; drawn = 2; cuts = cuts; worn = false }
+fronts zero = record {
+  history = made_by 1 (Put 7 9) None ∷ made_by 0 (Put 7 5) (Some 9) ∷ made_by 0 (Remove 3) None
+      ∷ [];
+  drawn = 2;
+  cuts = cuts;
+  worn = false;
+}
 fronts (suc t) = record { history = []; drawn = 0; cuts = λ w. []; worn = false }
 
-abbrev pub at : Command → Reply → ℕ → Told
-at c r m = record { command = c; reply = r; moment = m }
+abbrev pub told_at : Command → Reply → ℕ → Told
+told_at c r m = record { command = c; reply = r; moment = m }
 
-abbrev pub told : List Told
-told = at (command.Put 7 5) (reply.Old 9) 2 ∷ at (command.Get 7) (reply.Value 5) 2 ∷ at (command.Snap 0 []) reply.Snapped 2 ∷ at (command.Remove 3) reply.Absent 3 ∷ at (command.See 0 7) (reply.Value 5) 2 ∷ at (command.Depth 0) (reply.Depth 1 1 true) 2 ∷ []
+abbrev pub example_told : List Told
+example_told = told_at (command.Put 7 5) (reply.Old 9) 2 ∷ told_at (command.Get 7) (reply.Value 5) 2
+    ∷ told_at (command.Snap 0 []) reply.Snapped 2 ∷ told_at (command.Remove 3) reply.Absent 3
+    ∷ told_at (command.See 0 7) (reply.Value 5) 2
+    ∷ told_at (command.Depth 0) (reply.Depth 1 1 true) 2 ∷ []
 
 abbrev pub ExampleFits : Type 0
-ExampleFits = Fits small 0 fronts told
+ExampleFits = Fits small 0 fronts example_told

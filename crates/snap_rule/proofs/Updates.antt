@@ -12,6 +12,15 @@ changed_same f r v = rw (eq-eqb r r refl)
 pub changed_other : {A : Type 0} (f : ℕ → A) (r : ℕ) (v : A) (x : ℕ) → x ≢ r → changed f r v x ≡ f x
 changed_other f r v x n = rw (ne_eqb x r n)
 
+-- a place that was changed is changed again
+pub changed_again : {A : Type 0} (f : ℕ → A) (r : ℕ) (v w : A) → changed (changed f r v) r w ≡ changed f r w
+changed_again f r v w = λ i x. at x i
+  where
+    at : (x : ℕ) → changed (changed f r v) r w x ≡ changed f r w x
+    at x = dite (ℕ_discrete x r)
+        (λ e. rw (eq-eqb x r e) refl)
+        (λ n. rw (ne_eqb x r n) refl)
+
 pub relink_other : {A : Type 0} (f : ℕ → Side → A) (r : ℕ) (d : Side) (v : A) (x : ℕ) (e : Side) → x ≢ r → relink f r d v x e ≡ f x e
 relink_other f r d v x e n = rw (ne_eqb x r n)
 

@@ -9,7 +9,7 @@ use Rattle.snap_rule.specs.Rule.{TreeOk, TableOk, IsParent}
 use Rattle.snap_rule.specs.Doing.{Concerns, DoingOk, Apart}
 use Rattle.snap_rule.specs.declared.change.Doing.{Doing}
 use Rattle.snap_rule.specs.declared.change.Doing.TheVariants.{Nothing, Unlinked, Shrunk, Lowered, Lifted, Turned}
-use Rattle.snap_rule.specs.Views.{View, ReadingOk, TryingOk, ViewOk, at_seat, with_seat, Holds, LeavesOthers}
+use Rattle.snap_rule.specs.Views.{View, ReadingOk, TryingOk, ViewOk, at_seat, with_seat, HoldsFor, LeavesOthers}
 use Rattle.snap_rule.specs.declared.quiescence.Trying.{Trying}
 use Rattle.snap_rule.specs.declared.reader.Reading.{Reading}
 use Rattle.snap_rule.specs.declared.reader.Reading.TheVariants.{Resting, On}
@@ -70,9 +70,9 @@ module _ (s s' : State) (ev : Evolves s s') where
         held = λ n c. (away n c).1 ∙ h.held n c;
       }
 
-pub step_holds : (s s' : State) (views : List View) (id : ℕ) (v w : View) → Holds s views → at_seat views id ≡ Some v → w.who ≡ v.who → Evolves s s'
+pub step_holds : (s s' : State) (views : List View) (id : ℕ) (v w : View) → HoldsFor s views → at_seat views id ≡ Some v → w.who ≡ v.who → Evolves s s'
     → TableOk s' → LeavesOthers s s' v.who → ViewOk s' w
-    → Holds s' (with_seat views id w)
+    → HoldsFor s' (with_seat views id w)
 step_holds s s' views id v w h at same ev ok left new = record {
   table = ok;
   each = λ j u e. elim (seat_back views id j w u e) [

@@ -1,5 +1,6 @@
--- The child check: what is known of the row that a link named. The child's stamp is loaded, then the link and the row's
--- own stamp once more; what is known by then holds whatever happens to the child afterwards.
+-- The child check: what is known of the row that a link named. The child's stamp is loaded, then
+-- the link and the row's own stamp once more; what is known by then holds whatever happens to the
+-- child afterwards.
 use Rattle.std.specs.Prelude.{List, None, ℕ, ◌≡◌}
 use Rattle.snap_model.specs.History.{told}
 use Rattle.snap_model.specs.declared.call.Entry.{Entry}
@@ -26,7 +27,8 @@ pub record IsGone (s : State) (seen : List Entry) (c : ℕ) : Type 0 where
   pub no_value : s.value c ≡ 0
   pub absent : WasAbsent s seen (s.key c)
 
--- c is where the search for k goes on, as long as it has the stamp w; and if its key is k, its value word is the answer
+-- c is where the search for k goes on, as long as it has the stamp w; and if its key is k, its
+-- value word is the answer
 pub record IsCandidate (s : State) (seen : List Entry) (k c w : ℕ) : Type 0 where
   pub placed : s.stamp c ≡ w → IsPlaced s seen c k
   pub tells : s.key c ≡ k → HasTold s seen c k

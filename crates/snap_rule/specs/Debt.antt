@@ -1,6 +1,7 @@
--- Repair debt. A pass in a write may leave rows unsettled for a while, and then owes them a repair: it has a list of rows,
--- each with a stamp, and a to-do key. It owes a listed row as long as the row has the listed stamp; what it owes stands
--- on the path of its to-do key. So no row is forgotten, and no other pass can take an owed row off that path unseen.
+-- Repair debt. A pass in a write may leave rows unsettled for a while, and then owes them a repair:
+-- it has a list of rows, each with a stamp, and a to-do key. It owes a listed row as long as the
+-- row has the listed stamp; what it owes stands on the path of its to-do key. So no row is
+-- forgotten, and no other pass can take an owed row off that path unseen.
 pub mod Lists
 pub mod Step
 pub mod Kinds
@@ -37,7 +38,8 @@ pub record OnPath (s : State) (u : Debt) (n : ℕ) : Type 0 where
   pub to_do : u.to_do ≡ Some key
   pub way : OnWay s.tree key n
 
--- the debt of one pass: listed stamps are of the past, and what is owed is live and on the path of the to-do key
+-- the debt of one pass: listed stamps are of the past, and what is owed is live and on the path of
+-- the to-do key
 pub record DebtFits (s : State) (u : Debt) : Type 0 where
   pub past : (n x : ℕ) → IsListed n x u.list → In n s.linked × (x ≤ s.stamp n)
   pub owed : (n : ℕ) → Owes s u n → IsLive s n × OnPath s u n
@@ -46,8 +48,8 @@ pub record IsOwed (s : State) (debts : ℕ → Debt) (n : ℕ) : Type 0 where
   pub pass : ℕ
   pub owes : Owes s (debts pass) n
 
--- the debts of all passes, by their numbers: each row of the tree is settled or owed, each debt fits, and a row that one
--- pass is lowering is owed by no other
+-- the debts of all passes, by their numbers: each row of the tree is settled or owed, each debt
+-- fits, and a row that one pass is lowering is owed by no other
 pub record DebtOk (s : State) (debts : ℕ → Debt) : Type 0 where
   pub settled : (n : ℕ) → Stands n s.tree → IsSettled s n ⊎ IsOwed s debts n
   pub each : (j : ℕ) → DebtFits s (debts j)

@@ -1,5 +1,5 @@
--- A change in progress: what its pass knows after each of its steps, which is what the next one needs, and what a step of
--- another pass leaves of that.
+-- A change in progress: what its pass knows after each of its steps, which is what the next one
+-- needs, and what a step of another pass leaves of that.
 use Rattle.std.specs.Prelude.{ℕ, ◌≡◌, ◌≢◌, ◌⊎◌}
 use Rattle.snap_stamp.specs.Sides.{other}
 use Rattle.snap_stamp.specs.Stamps.{IsLowering}
@@ -19,8 +19,10 @@ Concerns (Lowered parent p row d raised) n = (n ≡ parent) ⊎ (n ≡ row) ⊎ 
 Concerns (Lifted parent p row d raised) n = (n ≡ parent) ⊎ (n ≡ row) ⊎ (n ≡ raised)
 Concerns (Turned row) n = n ≡ row
 
--- a rotation up to its fourth step: the parent, the row, and its child on side d that is to be raised
-pub record IsRotation (s : State) (parent : ℕ) (p : Side) (row : ℕ) (d : Side) (raised : ℕ) : Type 0 where
+-- a rotation up to its fourth step: the parent, the row, and its child on side d that is to be
+-- raised
+pub record IsRotation (s : State) (parent : ℕ) (p : Side) (row : ℕ) (d : Side)
+    (raised : ℕ) : Type 0 where
   pub parent_live : IsParent s parent p
   pub live : IsLive s row
   pub raised_live : IsLive s raised
@@ -41,14 +43,16 @@ pub record HasUnlinked (s : State) (parent : ℕ) (d : Side) (row only : ℕ) : 
   pub child : s.links parent d ≡ only
 
 -- after `mark_shrinking`: no link has moved
-pub record HasShrunk (s : State) (parent : ℕ) (p : Side) (row : ℕ) (d : Side) (raised : ℕ) : Type 0 where
+pub record HasShrunk (s : State) (parent : ℕ) (p : Side) (row : ℕ) (d : Side)
+    (raised : ℕ) : Type 0 where
   pub turn : IsRotation s parent p row d raised
   pub marked : IsLowering (s.stamp row)
   pub row_link : s.pending row d ≡ plain
   pub not_named : NotNamed s row
 
 -- after `link_lowered`: the row's link leads to the subtree between the two
-pub record HasLowered (s : State) (parent : ℕ) (p : Side) (row : ℕ) (d : Side) (raised : ℕ) : Type 0 where
+pub record HasLowered (s : State) (parent : ℕ) (p : Side) (row : ℕ) (d : Side)
+    (raised : ℕ) : Type 0 where
   pub turn : IsRotation s parent p row d raised
   pub marked : IsLowering (s.stamp row)
   pub row_link : s.pending row d ≡ lowering (s.link row d)
@@ -56,7 +60,8 @@ pub record HasLowered (s : State) (parent : ℕ) (p : Side) (row : ℕ) (d : Sid
   pub not_named : NotNamed s row
 
 -- after `link_raised`: the raised row's link leads to the row, and no other link is raising it
-pub record HasLifted (s : State) (parent : ℕ) (p : Side) (row : ℕ) (d : Side) (raised : ℕ) : Type 0 where
+pub record HasLifted (s : State) (parent : ℕ) (p : Side) (row : ℕ) (d : Side)
+    (raised : ℕ) : Type 0 where
   pub turn : IsRotation s parent p row d raised
   pub marked : IsLowering (s.stamp row)
   pub row_link : s.pending row d ≡ lowering (s.link row d)
@@ -80,7 +85,8 @@ DoingOk s (Lowered parent p row d raised) = HasLowered s parent p row d raised
 DoingOk s (Lifted parent p row d raised) = HasLifted s parent p row d raised
 DoingOk s (Turned row) = HasTurned s row
 
--- a step leaves a row alone: its stamp and its links, in memory and in the tree, no new link is raising it, and it stays live
+-- a step leaves a row alone: its stamp and its links, in memory and in the tree, no new link is
+-- raising it, and it stays live
 pub record Apart (s s' : State) (n : ℕ) : Type 0 where
   pub stamp : s'.stamp n ≡ s.stamp n
   pub link : (d : Side) → s'.link n d ≡ s.link n d

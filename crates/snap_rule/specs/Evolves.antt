@@ -1,5 +1,6 @@
--- How a table changes from one moment to any later one, as far as it matters to the readers of other passes. Every kind
--- of step evolves the table; what is said of a reader is kept by all that evolves, and so proved once and not for each kind.
+-- How a table changes from one moment to any later one, as far as it matters to the readers of
+-- other passes. Every kind of step evolves the table; what is said of a reader is kept by all that
+-- evolves, and so proved once and not for each kind.
 use Rattle.std.specs.Prelude.{None, ℕ, ◌/◌, ◌≡◌, ◌≢◌, ◌≤◌}
 use Rattle.snap_model.specs.History.{Begins, told}
 use Rattle.snap_stamp.specs.Stamps.{IsUnlinked, IsUnmarked}
@@ -26,17 +27,21 @@ pub record Evolves (s s' : State) : Type 0 where
   pub birth : (n : ℕ) → In n s.linked → s'.birth n ≡ s.birth n
   -- a stamp only grows as a number, so one that a row has left it never has again
   pub stamp : (n : ℕ) → WasLinked s n → s.stamp n ≤ s'.stamp n
-  -- an unshared row on the way to k is a position for k as long as it keeps its stamp, if that has no mark
-  pub place : (n k : ℕ) → OnWay s.tree k n → ¬ IsShared s n → IsUnmarked (s.stamp n) → s'.stamp n ≡ s.stamp n → IsPlaced s' s'.history n k
+  -- an unshared row on the way to k is a position for k as long as it keeps its stamp, if that has
+  -- no mark
+  pub place : (n k : ℕ) → OnWay s.tree k n → ¬ IsShared s n → IsUnmarked (s.stamp n)
+      → s'.stamp n ≡ s.stamp n → IsPlaced s' s'.history n k
   -- a shared row keeps its words
   pub shared : (n : ℕ) → In n s.linked → IsShared s n → SameRow s s' n
   -- a row that comes to be unlinked has no value, its key is absent then, and its value word stays
-  pub unlinked : (n : ℕ) → In n s.linked → ¬ IsUnlinked (s.stamp n) → IsUnlinked (s'.stamp n) → (s'.value n ≡ 0) × (told s'.history (s.key n) ≡ None)
+  pub unlinked : (n : ℕ) → In n s.linked → ¬ IsUnlinked (s.stamp n) → IsUnlinked (s'.stamp n)
+      → (s'.value n ≡ 0) × (told s'.history (s.key n) ≡ None)
   pub gone : (n : ℕ) → In n s.linked → IsUnlinked (s.stamp n) → s'.value n ≡ s.value n
   -- a value word that changes tells what the map then has
-  pub value : (n : ℕ) → In n s.linked → s'.value n ≢ s.value n → s'.value n ≡ value_word (told s'.history (s.key n))
-  -- the number of writes entered never falls; where it stays and no pass is in a write, none comes to be in one, and
-  -- where no pass is in a write the rows keep all their words
+  pub value : (n : ℕ) → In n s.linked → s'.value n ≢ s.value n
+      → s'.value n ≡ value_word (told s'.history (s.key n))
+  -- the number of writes entered never falls; where it stays and no pass is in a write, none comes
+  -- to be in one, and where no pass is in a write the rows keep all their words
   pub entered : s.gate / 2 ≤ s'.gate / 2
   pub none_enters : s'.gate / 2 ≡ s.gate / 2 → s.writers ≡ 0 → s'.writers ≡ 0
   pub quiet : s.writers ≡ 0 → (n : ℕ) → WasLinked s n → SameRow s s' n × (s'.lock n ≡ s.lock n)

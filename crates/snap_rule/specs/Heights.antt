@@ -1,5 +1,5 @@
--- What a pass has loaded, under its lock, of a row and of the heights below it. As long as it holds the row these words
--- stay, since a stored height needs the lock of the parent.
+-- What a pass has loaded, under its lock, of a row and of the heights below it. As long as it holds
+-- the row these words stay, since a stored height needs the lock of the parent.
 use Rattle.std.specs.Prelude.{ℕ, ◌≡◌, ◌≢◌, ◌⊎◌}
 use Rattle.snap_stamp.specs.declared.side.Side.{Side}
 use Rattle.snap_stamp.specs.declared.side.Side.TheVariants.{Left, Right}
@@ -30,4 +30,5 @@ pub record LoadedOk (s : State) (n : ℕ) (x : Loaded) : Type 0 where
 
 -- the loaded words show that the row is settled
 abbrev pub ShowsSettled : Loaded → Type 0
-ShowsSettled x = IsBalanced x.height x.left_height x.right_height × ((x.value ≢ 0) ⊎ (x.left ≢ 0) × (x.right ≢ 0))
+ShowsSettled x = IsBalanced x.height x.left_height x.right_height
+    × ((x.value ≢ 0) ⊎ (x.left ≢ 0) × (x.right ≢ 0))

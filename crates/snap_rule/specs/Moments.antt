@@ -1,4 +1,5 @@
--- Some moment: an answer of a reader stands at a history between the one that the reader had seen and the present one.
+-- Some moment: an answer of a reader stands at a history between the one that the reader had seen
+-- and the present one.
 use Rattle.std.specs.Prelude.{List}
 use Rattle.snap_model.specs.History.{Begins}
 use Rattle.snap_model.specs.declared.call.Entry.{Entry}

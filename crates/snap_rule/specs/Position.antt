@@ -1,6 +1,7 @@
--- The position of a search. A search for k may stand at row 0, at an unshared row of the tree on the way to k, or at a
--- shared row whose image has at k what the map had there at some moment since the reader began. A reader that has
--- loaded a row's stamp keeps its position as long as the row has that stamp.
+-- The position of a search. A search for k may stand at row 0, at an unshared row of the tree on
+-- the way to k, or at a shared row whose image has at k what the map had there at some moment since
+-- the reader began. A reader that has loaded a row's stamp keeps its position as long as the row
+-- has that stamp.
 use Rattle.std.specs.Prelude.{List, ℕ, ◌≡◌, ◌≢◌, ◌≤◌, ◌⊎◌}
 use Rattle.snap_model.specs.History.{told}
 use Rattle.snap_model.specs.declared.call.Entry.{Entry}
@@ -23,7 +24,8 @@ pub record OnImage (s : State) (seen : List Entry) (n k : ℕ) : Type 0 where
 abbrev pub IsPlaced : State → List Entry → ℕ → ℕ → Type 0
 IsPlaced s seen n k = (n ≡ 0) ⊎ (¬ IsShared s n) × OnWay s.tree k n ⊎ OnImage s seen n k
 
--- the side of n on which the search goes on: the right one at row 0, and elsewhere that of k, which isn't n's key
+-- the side of n on which the search goes on: the right one at row 0, and elsewhere that of k, which
+-- isn't n's key
 abbrev pub Faces : State → ℕ → ℕ → Side → Type 0
 Faces s n k d = (n ≡ 0) × (d ≡ Right) ⊎ (n ≢ 0) × Toward d k (s.key n)
 

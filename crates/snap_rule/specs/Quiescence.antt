@@ -1,6 +1,7 @@
--- Quiescence: what a call of `try_get` knows as long as no write was entered since the one that it counted last. No pass
--- is in a write, each word that it loaded is still as it was, and the tree below the link at which it stands is ordered
--- and has no marks. So trouble on its way tells that a write was entered.
+-- Quiescence: what a call of `try_get` knows as long as no write was entered since the one that it
+-- counted last. No pass is in a write, each word that it loaded is still as it was, and the tree
+-- below the link at which it stands is ordered and has no marks. So trouble on its way tells that a
+-- write was entered.
 use Rattle.std.specs.List.{AllByRecursion as Every}
 use Rattle.std.specs.Prelude.{List, ℕ, ◌/◌, ◌≡◌, ◌≤◌}
 use Rattle.snap_stamp.specs.Stamps.{IsUnmarked}

@@ -1,5 +1,5 @@
--- A reader on its way to a key, between any two of its loads. It had seen a part of the history when it began, and each
--- of its answers stands at some moment since.
+-- A reader on its way to a key, between any two of its loads. It had seen a part of the history
+-- when it began, and each of its answers stands at some moment since.
 use Rattle.std.specs.Prelude.{List, ℕ, ◌≡◌}
 use Rattle.snap_model.specs.History.{Begins}
 use Rattle.snap_model.specs.declared.call.Entry.{Entry}
@@ -15,8 +15,10 @@ abbrev pub PointOk : State → List Entry → ℕ → Point → Type 0
 PointOk s seen k (Standing n v d) = IsStanding s seen k n v d
 PointOk s seen k (NoLink n v d) = IsStanding s seen k n v d × (s.stamp n ≡ v → WasAbsent s seen k)
 PointOk s seen k (Linked n v d c) = IsStanding s seen k n v d × In c s.linked
-PointOk s seen k (Stamped n v d c w) = IsStanding s seen k n v d × IsChild s c w × (IsUnlinked (s.stamp c) → IsGone s seen c)
-PointOk s seen k (Relinked n v c w) = IsRecorded s n v × IsChild s c w × (s.stamp n ≡ v → IsCandidate s seen k c w)
+PointOk s seen k (Stamped n v d c w) =
+    IsStanding s seen k n v d × IsChild s c w × (IsUnlinked (s.stamp c) → IsGone s seen c)
+PointOk s seen k (Relinked n v c w) =
+    IsRecorded s n v × IsChild s c w × (s.stamp n ≡ v → IsCandidate s seen k c w)
 PointOk s seen k (Confirmed c w) = IsChild s c w × IsCandidate s seen k c w
 PointOk s seen k ConfirmedNone = WasAbsent s seen k
 PointOk s seen k (Matched c) = In c s.linked × (s.key c ≡ k) × HasTold s seen c k

@@ -1,5 +1,6 @@
--- Whether repair can go on. It needs a row to be drawn for each copy, and a stamp with a further count for each row that is
--- lowered. Where either is lacking, a pass has a reason to leave rows unsettled; a reason lasts for good.
+-- Whether repair can go on. It needs a row to be drawn for each copy, and a stamp with a further
+-- count for each row that is lowered. Where either is lacking, a pass has a reason to leave rows
+-- unsettled; a reason lasts for good.
 use Rattle.std.specs.Prelude.{ℕ, ◌<◌, ◌≤◌, ◌⊎◌}
 use Rattle.snap_stamp.specs.Stamps.{count_of, last_count}
 use Rattle.snap_rule.specs.State.{State, WasLinked}

@@ -1,5 +1,6 @@
--- Balance. A row is settled where its stored height is one more than the larger of those below it, these two differ by at
--- most one, and it holds a value or has two children. In a settled tree of some depth there are many nodes.
+-- Balance. A row is settled where its stored height is one more than the larger of those below it,
+-- these two differ by at most one, and it holds a value or has two children. In a settled tree of
+-- some depth there are many nodes.
 use Rattle.std.specs.Prelude.{None, Option, Some, max, min, suc, zero, ℕ, ◌+◌, ◌≡◌, ◌≢◌, ◌≤◌, ◌⊎◌}
 use Rattle.snap_stamp.specs.declared.side.Side.{Side}
 use Rattle.snap_stamp.specs.declared.side.Side.TheVariants.{Left, Right}
@@ -30,7 +31,8 @@ child_height s n d = height_at s.height (s.links n d)
 
 -- a row, by its words and the links that the tree has
 abbrev pub IsSettled : State → ℕ → Type 0
-IsSettled s n = IsBalanced (s.height n) (child_height s n Left) (child_height s n Right) × ((s.value n ≢ 0) ⊎ (s.links n Left ≢ 0) × (s.links n Right ≢ 0))
+IsSettled s n = IsBalanced (s.height n) (child_height s n Left) (child_height s n Right)
+    × ((s.value n ≢ 0) ⊎ (s.links n Left ≢ 0) × (s.links n Right ≢ 0))
 
 -- a tree, by its nodes
 abbrev pub top_height : Tree → ℕ
@@ -47,7 +49,10 @@ IsFull (node n a b) = Unit {0}
 
 abbrev pub IsSettledTree : Tree → Type 0
 IsSettledTree empty = Unit {0}
-IsSettledTree (node n a b) = IsBalanced n.height (top_height a) (top_height b) × (HasValue n.value ⊎ IsFull a × IsFull b) × IsSettledTree a × IsSettledTree b
+IsSettledTree (node n a b) = IsBalanced n.height (top_height a) (top_height b)
+    × (HasValue n.value ⊎ IsFull a × IsFull b)
+    × IsSettledTree a
+    × IsSettledTree b
 
 -- the least number of nodes of a settled tree of some depth
 abbrev pub least : ℕ → ℕ

@@ -1,5 +1,6 @@
--- A table at one moment. Its memory is a function for each field of a row, and a number for each word of the header that
--- the rule reads. Beside it stands what the rule alone speaks of: the history, the tree, and what ties them to the memory.
+-- A table at one moment. Its memory is a function for each field of a row, and a number for each
+-- word of the header that the rule reads. Beside it stands what the rule alone speaks of: the
+-- history, the tree, and what ties them to the memory.
 use Rattle.std.specs.Prelude.{List, [], ℕ, ◌<◌, ◌∷◌, ◌≡◌, ◌⊎◌}
 use Rattle.snap_model.specs.declared.call.Entry.{Entry}
 use Rattle.snap_stamp.specs.declared.side.Side.{Side}
@@ -7,8 +8,9 @@ use Rattle.snap_stamp.specs.declared.side.Side.TheVariants.{Left, Right}
 use Rattle.snap_rule.specs.Tree.{EachRow, Node, Tree, root, value_word}
 use Rattle.snap_rule.specs.Tree.Tree.{empty, node}
 
--- what a change in progress has put into a link in place of what the tree has there: nothing; still the unlinked row;
--- already the subtree that the lowered row takes over; already the lowered row, below the raised one
+-- what a change in progress has put into a link in place of what the tree has there: nothing; still
+-- the unlinked row; already the subtree that the lowered row takes over; already the lowered row,
+-- below the raised one
 pub data Change : Type 0 where
   plain : Change
   unlinking : ℕ → Change
@@ -73,7 +75,8 @@ pub record Says (s : State) (n : Node) : Type 0 where
 -- the tree is read from the words of its rows, by these links
 abbrev pub Reads : State → (ℕ → Side → ℕ) → Tree → Type 0
 Reads s l empty = Unit {0}
-Reads s l (node n a b) = Says s n × (l n.row Left ≡ root a) × (l n.row Right ≡ root b) × Reads s l a × Reads s l b
+Reads s l (node n a b) =
+    Says s n × (l n.row Left ≡ root a) × (l n.row Right ≡ root b) × Reads s l a × Reads s l b
 
 -- the image of a shared row: the tree that is read from it, of shared rows alone
 pub record IsImage (s : State) (n : ℕ) (t : Tree) : Type 0 where

@@ -1,5 +1,6 @@
--- A search tree whose nodes have row numbers, and what is read off it: the value at a key, the rows on the way to a
--- key, the order of its keys. A tree is a value of its own and reads no memory. A node without a value is a routing node.
+-- A search tree whose nodes have row numbers, and what is read off it: the value at a key, the rows
+-- on the way to a key, the order of its keys. A tree is a value of its own and reads no memory. A
+-- node without a value is a routing node.
 use Rattle.std.specs.Prelude.{None, Option, Some, [], if◌then◌else◌, max, nat_lt, suc, zero, ℕ, ◌++◌, ◌+◌, ◌<◌, ◌==◌, ◌∷◌, ◌≡◌, ◌≤◌, ◌⊎◌}
 use Rattle.snap_model.specs.SortedMap.{Pairs}
 
@@ -36,7 +37,8 @@ OnWay (node n a b) k m = (m ≡ n.row) ⊎ (k < n.key) × OnWay a k m ⊎ (n.key
 -- every key is at least low and below high, and the keys rise from left to right
 abbrev pub Between : ℕ → ℕ → Tree → Type 0
 Between low high empty = Unit {0}
-Between low high (node n a b) = (low ≤ n.key) × (n.key < high) × Between low n.key a × Between (n.key + 1) high b
+Between low high (node n a b) =
+    (low ≤ n.key) × (n.key < high) × Between low n.key a × Between (n.key + 1) high b
 
 -- each row of the tree has the property
 abbrev pub EachRow : (ℕ → Type 0) → Tree → Type 0

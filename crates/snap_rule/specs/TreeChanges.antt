@@ -1,5 +1,6 @@
--- What the kinds of step do to a tree, each as a function that looks for a row: another value or height at it, another
--- row in its place, the row taken out, its child raised above it, a leaf hung below it.
+-- What the kinds of step do to a tree, each as a function that looks for a row: another value or
+-- height at it, another row in its place, the row taken out, its child raised above it, a leaf hung
+-- below it.
 use Rattle.std.specs.Prelude.{Option, if◌then◌else◌, ℕ, ◌==◌}
 use Rattle.snap_model.specs.History.{call_key, call_value}
 use Rattle.snap_model.specs.declared.call.Entry.{Entry}
@@ -11,17 +12,20 @@ use Rattle.snap_rule.specs.Tree.Tree.{empty, node}
 -- another value at row r
 abbrev pub with_value : ℕ → Option ℕ → Tree → Tree
 with_value r o empty = empty
-with_value r o (node m a b) = node (record m { value = if m.row == r then o else m.value }) (with_value r o a) (with_value r o b)
+with_value r o (node m a b) = node (record m { value = if m.row == r then o else m.value })
+    (with_value r o a) (with_value r o b)
 
 -- another height at row r
 abbrev pub with_height : ℕ → ℕ → Tree → Tree
 with_height r h empty = empty
-with_height r h (node m a b) = node (record m { height = if m.row == r then h else m.height }) (with_height r h a) (with_height r h b)
+with_height r h (node m a b) = node (record m { height = if m.row == r then h else m.height })
+    (with_height r h a) (with_height r h b)
 
 -- row q in the place of row r
 abbrev pub renamed : ℕ → ℕ → Tree → Tree
 renamed r q empty = empty
-renamed r q (node m a b) = node (record m { row = if m.row == r then q else m.row }) (renamed r q a) (renamed r q b)
+renamed r q (node m a b) =
+    node (record m { row = if m.row == r then q else m.row }) (renamed r q a) (renamed r q b)
 
 -- without row r, which has one child or none
 abbrev pub one_of : Tree → Tree → Tree
@@ -41,7 +45,8 @@ turned Right m a (node p x y) = node p (node m a x) y
 
 abbrev pub rotated : ℕ → Side → Tree → Tree
 rotated r d empty = empty
-rotated r d (node m a b) = if m.row == r then turned d m a b else node m (rotated r d a) (rotated r d b)
+rotated r d (node m a b) =
+    if m.row == r then turned d m a b else node m (rotated r d a) (rotated r d b)
 
 -- the leaf of a call on row r
 abbrev pub leaf_of : ℕ → Entry → Node
@@ -56,7 +61,8 @@ first_on Right m a (node p x y) l = node m a (node p x y)
 
 abbrev pub grown_below : ℕ → Side → Node → Tree → Tree
 grown_below r d l empty = empty
-grown_below r d l (node m a b) = if m.row == r then first_on d m a b l else node m (grown_below r d l a) (grown_below r d l b)
+grown_below r d l (node m a b) =
+    if m.row == r then first_on d m a b l else node m (grown_below r d l a) (grown_below r d l b)
 
 -- the same, where an empty tree gets the leaf as its root
 abbrev pub grown : ℕ → Side → Node → Tree → Tree

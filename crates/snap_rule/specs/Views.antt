@@ -1,5 +1,6 @@
--- What the passes know, each for itself, and what the step of one leaves to the others. A view is what one pass knows: the
--- history that it has seen, its way to a key, its call of `try_get`, and its change.
+-- What the passes know, each for itself, and what the step of one leaves to the others. A view is
+-- what one pass knows: the history that it has seen, its way to a key, its call of `try_get`, and
+-- its change.
 use Rattle.std.specs.Prelude.{List, None, Option, Some, [], suc, zero, ℕ, ◌+◌, ◌/◌, ◌<◌, ◌∷◌, ◌≡◌, ◌≢◌}
 use Rattle.snap_model.specs.History.{Begins}
 use Rattle.snap_model.specs.declared.call.Entry.{Entry}
@@ -52,11 +53,13 @@ with_seat (v ∷ vs) zero w = w ∷ vs
 with_seat (v ∷ vs) (suc j) w = v ∷ with_seat vs j w
 
 -- the rule holds: the parts that speak of no pass, each view, and no two passes have one number
-pub record Holds (s : State) (views : List View) : Type 0 where
+pub record HoldsFor (s : State) (views : List View) : Type 0 where
   pub table : TableOk s
   pub each : (j : ℕ) (u : View) → at_seat views j ≡ Some u → ViewOk s u
-  pub alone : (i j : ℕ) (u v : View) → at_seat views i ≡ Some u → at_seat views j ≡ Some v → u.who ≡ v.who → i ≡ j
+  pub alone : (i j : ℕ) (u v : View) → at_seat views i ≡ Some u → at_seat views j ≡ Some v
+      → u.who ≡ v.who → i ≡ j
 
 -- the step of pass `who` leaves each row alone that another pass holds, and its lock
 abbrev pub LeavesOthers : State → State → ℕ → Type 0
-LeavesOthers s s' who = (n : ℕ) → WasLinked s n → s.lock n ≢ 0 → s.lock n ≢ who + 1 → Apart s s' n × (s'.lock n ≡ s.lock n)
+LeavesOthers s s' who = (n : ℕ) → WasLinked s n → s.lock n ≢ 0 → s.lock n ≢ who + 1
+    → Apart s s' n × (s'.lock n ≡ s.lock n)

@@ -1,6 +1,6 @@
 //! Each kind of step keeps the debts.
 
-ghost use Rattle.snap_rule.specs.Laws.DebtKinds.{AimOwes, ClearOwes, CopyOwes, CutOwes, HeightOwes, LeafOwes, LeaveOwes, OpensOwes, OwnSilent, RaiseOwes, RaiseTurns, ShrinkOwes, SilentKinds, SilentOwes, StoreOwes, TurnKept, UnlinkOwes, UpOwes};
+ghost use Rattle.snap_rule.specs.Laws.DebtKinds.{AimOwes, ClearOwes, CopyOwes, CutOwes, HeightOwes, LastOwes, LeafOwes, LeaveOwes, OpensOwes, OwnSilent, RaiseOwes, RaiseTurns, ShrinkOwes, SilentKinds, SilentOwes, StoreOwes, TurnKept, UnlinkOwes, UpOwes};
 
 /// `store_value` keeps the debts.
 pub fn store_owes()
@@ -40,6 +40,11 @@ pub fn height_owes()
 /// `pass_up` keeps the debts.
 pub fn up_owes()
     ensures { UpOwes }
+{}
+
+/// `settle_last` keeps the debts.
+pub fn last_owes()
+    ensures { LastOwes }
 {}
 
 /// `aim` keeps the debts.

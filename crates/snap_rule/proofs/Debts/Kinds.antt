@@ -18,7 +18,7 @@ use Rattle.snap_rule.specs.Debt.{no_debt, Owes, OwesNone, OnPath, DebtFits, Debt
 use Rattle.snap_rule.specs.Debt.Step.{DebtEvolves, IsFree, DebtStep, Owing}
 use Rattle.snap_rule.specs.Debt.Lists.{taken, aimed}
 use Rattle.snap_rule.specs.Debt.Kinds.{stored_debt, MayPassUp, AimsBeyond, MayAim}
-use Rattle.snap_rule.proofs.Updates.{changed_same, changed_other}
+use Rattle.snap_rule.proofs.Updates.{changed_same, changed_other, changed_again}
 use Rattle.snap_rule.proofs.Trees.{own_way, row_positive, each_at}
 use Rattle.snap_rule.proofs.Trees.Ways.{way_with_value}
 use Rattle.snap_rule.proofs.Trees.Rows.{stands_with_value, with_value_stands}
@@ -113,6 +113,31 @@ module _ (s : State) (debts : ℕ → Debt) (id : ℕ) (debt : DebtOk s debts) w
 
   pub leave_owes : OwesNone s (debts id) → Owing s debts id no_debt
   leave_owes none = same_step no_debt (none_fits s) (λ n h. absurd h) (λ n t. cc (t)) (λ n h o. absurd (none n o))
+
+  -- what is owed is one row, which is settled
+  pub last_owes : (row : ℕ) → IsSettled s row → ((n : ℕ) → Owes s (debts id) n → n ≡ row) → Owing s debts id no_debt
+  last_owes row settled only = same_step no_debt (none_fits s) (λ n h. absurd h) (λ n t. cc (t)) (λ n h o. inl (subst (IsSettled s) (sym (only n o)) settled))
+
+  -- a row that isn't owed is taken off the list
+  taken_fits : (w : Debt) (row : ℕ) → DebtFits s w → DebtFits s (record w { list = taken row w.list })
+  taken_fits w row fits = record {
+    past = λ n x h. fits.past n x (taken_back row w.list n x h).1;
+    owed = λ n h. let o = fits.owed n (taken_back row w.list n (s.stamp n) h).1 in (o.0, record { key = o.1.key; to_do = o.1.to_do; way = o.1.way });
+  }
+
+  pub taken_owes : (row : ℕ) → (Owes s (debts id) row → ⊥) → Owing s debts id (record (debts id) { list = taken row (debts id).list })
+  taken_owes row free = same_step (record (debts id) { list = taken row (debts id).list }) (taken_fits (debts id) row (debt.each id))
+      (λ n h. (taken_back row (debts id).list n (s.stamp n) h).1)
+      (λ n t. t)
+      (λ n h o. inr (taken_there row (debts id).list n (s.stamp n) (λ e. free (subst (Owes s (debts id)) e o)) o))
+
+-- and once the debt of the pass has been changed already
+pub taken_after : (s : State) (debts : ℕ → Debt) (id : ℕ) (w : Debt) (row : ℕ) → Owing s debts id w → (Owes s w row → ⊥) → Owing s debts id (record w { list = taken row w.list })
+taken_after s debts id w row ok free =
+    let there : changed debts id w id ≡ w = changed_same debts id w in
+    subst (DebtOk s) (changed_again debts id w (record w { list = taken row w.list }))
+    (subst (λ (u : Debt). DebtOk s (changed (changed debts id w) id (record u { list = taken row u.list }))) there
+    (taken_owes s (changed debts id w) id ok row (λ o. free (subst (λ (u : Debt). Owes s u row) there o))))
 
 -- paths to a row and to its parent
 module _ (s : State) (ok : TableOk s) where

@@ -1,5 +1,5 @@
 -- The debts after the kinds of step that change links of the tree.
-use Rattle.std.proofs.Common.{◌≡◌, ◌≢◌, ℕ, zero, suc, ◌+◌, ◌≤◌, ◌^◌, ◌⊎◌, inl, inr, [], Some, refl, ap, ap₂, sym, ◌∙◌, subst, arith}
+use Rattle.std.proofs.Common.{◌≡◌, ◌≢◌, ℕ, List, zero, suc, ◌+◌, ◌≤◌, ◌^◌, ◌⊎◌, inl, inr, [], Some, refl, ap, ap₂, sym, ◌∙◌, subst, arith}
 use native.Mathlib.Decide.{ℕ_discrete}
 use mathlib.Core.Logic.{dite}
 use Rattle.snap_model.specs.declared.call.Entry.{Entry}
@@ -20,9 +20,10 @@ use Rattle.snap_rule.specs.Kinds.Unlinking.{unlinked_marked, MayMarkUnlinked, on
 use Rattle.snap_rule.specs.Kinds.Rotation.{parent_linked, MayLinkParent}
 use Rattle.snap_rule.specs.Settled.{height_at, child_height, IsSettled}
 use Rattle.snap_rule.specs.declared.debt.Debt.{Debt}
-use Rattle.snap_rule.specs.Debt.{IsListed, Owes, OwesNone, OnPath, DebtOk}
+use Rattle.snap_rule.specs.declared.debt.Mark.{Mark}
+use Rattle.snap_rule.specs.Debt.{IsListed, Owes, OwesNone, OnPath, DebtFits, DebtOk}
 use Rattle.snap_rule.specs.Debt.Step.{IsFree, Owing}
-use Rattle.snap_rule.specs.Debt.Lists.{noted, aimed, Aims}
+use Rattle.snap_rule.specs.Debt.Lists.{noted, aimed, taken, Aims}
 use Rattle.snap_rule.specs.Debt.Kinds.{leaf_debt, MayOweRaise, raise_debt}
 use Rattle.snap_rule.proofs.Updates.{changed_same, changed_other, relink_other, relink_same, relink_away, same_place}
 use Rattle.snap_rule.proofs.Trees.Ways.{thin, way_renamed, way_without, way_rotated, way_grown}
@@ -32,7 +33,7 @@ use Rattle.snap_rule.proofs.Readers.Second.{plain_word}
 use Rattle.snap_rule.proofs.Parts.Tree.{row_stands}
 use Rattle.snap_rule.proofs.Table.{leaf_keeps, copy_keeps, unlink_keeps, raise_keeps}
 use Rattle.snap_rule.proofs.Debts.{balanced_same, settled_same, live_same, owed_back, debt_step, own_fits, noted_here, noted_there, noted_back, aimed_list, aimed_there, aimed_key, aimed_turning}
-use Rattle.snap_rule.proofs.Debts.Kinds.{owing, parent_is_live, other_free, shared_settled, row_to_root, row_to_parent, parent_to_row, own_path, on_path}
+use Rattle.snap_rule.proofs.Debts.Kinds.{owing, taken_after, parent_is_live, other_free, shared_settled, row_to_root, row_to_parent, parent_to_row, own_path, on_path}
 use Rattle.snap_rule.proofs.Debts.Turns.{not_zero}
 
 -- the word of a link that is in no change
@@ -240,8 +241,8 @@ module _ (s : State) (debts : ℕ → Debt) (id parent : ℕ) (d : Side) (row : 
   parent_apart : (n : ℕ) → n ≡ parent → n ≢ row
   parent_apart n e q = may.apart (sym e ∙ q)
 
-  pub unlink_owes : Owing (unlinked_marked s parent d row) debts id (aimed s parent (noted s parent (debts id).list))
-  unlink_owes = owing s (unlinked_marked s parent d row) debts id (aimed s parent (noted s parent (debts id).list)) debt (record {
+  unlink_lists : Owing (unlinked_marked s parent d row) debts id (aimed s parent (noted s parent (debts id).list))
+  unlink_lists = owing s (unlinked_marked s parent d row) debts id (aimed s parent (noted s parent (debts id).list)) debt (record {
     grows = unlink_grows;
     others = λ n l q t. let z = stamp_moves s row 1 n (omega arith) q in (unlink_live n z l, λ k w. unlink_way k n z w);
     own = own_fits s (unlinked_marked s parent d row) (debts id) (aimed s parent (noted s parent (debts id).list)) unlink_grows (debt.each id) (λ n h. ((unlink_keeps s ok parent d row may).tree.rows n h).0)
@@ -272,6 +273,21 @@ module _ (s : State) (debts : ℕ → Debt) (id parent : ℕ) (d : Side) (row : 
     ];
     turns = λ n t. absurd (aimed_turning s parent (noted s parent (debts id).list) n t);
   })
+
+  -- the row is owed no more, since it has left the tree
+  unlink_free : Owes (unlinked_marked s parent d row) (aimed s parent (noted s parent (debts id).list)) row → ⊥
+  unlink_free o =
+      let fits = unlink_lists.each id in
+      let mine : DebtFits (unlinked_marked s parent d row) (aimed s parent (noted s parent (debts id).list)) = subst (DebtFits (unlinked_marked s parent d row)) (changed_same debts id (aimed s parent (noted s parent (debts id).list))) fits in
+      unlink_gone row (mine.owed row o).0.stands refl
+
+  taken_aim : (n : ℕ) (l : List Mark) → (let u : Debt = aimed s n l in record u { list = taken row u.list }) ≡ aimed s n (taken row l)
+  taken_aim zero l = refl
+  taken_aim (suc n) l = refl
+
+  pub unlink_owes : Owing (unlinked_marked s parent d row) debts id (aimed s parent (taken row (noted s parent (debts id).list)))
+  unlink_owes = subst (λ (u : Debt). DebtOk (unlinked_marked s parent d row) (changed debts id u)) (taken_aim parent (noted s parent (debts id).list))
+      (taken_after (unlinked_marked s parent d row) debts id (aimed s parent (noted s parent (debts id).list)) row unlink_lists unlink_free)
 
 -- a row is raised above its parent
 module _ (s : State) (debts : ℕ → Debt) (id parent : ℕ) (p : Side) (row : ℕ) (d : Side) (raised : ℕ) (ok : TableOk s) (debt : DebtOk s debts) (may : MayLinkParent s parent p row d raised) (owe : MayOweRaise s debts id parent row raised) where

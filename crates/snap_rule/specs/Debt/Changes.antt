@@ -1,5 +1,6 @@
--- What a pass in a change knows of its debt. In a rotation it is lowering a row and owes it, and up to `link_parent` its
--- to-do key is the row's or the raised row's. This holds whether there is room or not.
+-- What a pass in a change knows of its debt. In a rotation it is lowering a row and owes it, and up
+-- to `link_parent` its to-do key is the row's or the raised row's. This holds whether there is room
+-- or not.
 use Rattle.std.specs.Prelude.{None, Some, ℕ, ◌≡◌, ◌⊎◌}
 use Rattle.snap_rule.specs.Debt.{Owes}
 use Rattle.snap_rule.specs.State.{State}

@@ -1,4 +1,5 @@
--- A row comes onto a list or is taken off, and the to-do key comes to be that of a row. Row 0 is never listed and has no key.
+-- A row comes onto a list or is taken off, and the to-do key comes to be that of a row. Row 0 is
+-- never listed and has no key.
 use Rattle.std.specs.Prelude.{List, None, Option, Some, [], if◌then◌else◌, suc, zero, ℕ, ◌==◌, ◌∷◌, ◌≡◌, ◌≢◌}
 use Rattle.snap_rule.specs.Debt.{mark, no_debt}
 use Rattle.snap_rule.specs.State.{State}
@@ -15,7 +16,8 @@ abbrev pub taken : ℕ → List Mark → List Mark
 taken r [] = []
 taken r (m ∷ l) = if m.row == r then taken r l else m ∷ taken r l
 
--- the debt with this list, when the to-do key comes to be that of a row; at row 0 nothing is left to do
+-- the debt with this list, when the to-do key comes to be that of a row; at row 0 nothing is left
+-- to do
 abbrev pub aimed : State → ℕ → List Mark → Debt
 aimed s zero l = no_debt
 aimed s (suc n) l = record { to_do = Some (s.key (suc n)); list = l; turning = None }

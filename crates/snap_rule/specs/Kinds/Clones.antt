@@ -1,4 +1,5 @@
--- Clones: the cut, which begins an epoch and thereby shares every row that was linked, and the lazy copy of a shared row.
+-- Clones: the cut, which begins an epoch and thereby shares every row that was linked, and the lazy
+-- copy of a shared row.
 use Rattle.std.specs.Prelude.{ℕ, ◌+◌, ◌<◌, ◌∷◌, ◌≡◌, ◌≢◌}
 use Rattle.snap_stamp.specs.declared.side.Side.{Side}
 use Rattle.snap_rule.specs.Rule.{IsParent}
@@ -15,7 +16,8 @@ pub record MayCut (s : State) : Type 0 where
   pub none_writes : s.writers ≡ 0
   pub no_change : (n : ℕ) (d : Side) → s.pending n d ≡ plain
 
--- `link_copy`: a fresh row, filled with the words of a shared child, takes its place below the parent
+-- `link_copy`: a fresh row, filled with the words of a shared child, takes its place below the
+-- parent
 abbrev pub copy_linked : State → ℕ → Side → ℕ → ℕ → State
 copy_linked s parent d row copy = record s {
   link = relink s.link parent d copy;

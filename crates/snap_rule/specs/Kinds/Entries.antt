@@ -1,4 +1,5 @@
--- Kinds that add an entry to the history: a leaf is linked, a value is stored, a removal finds that its key is absent.
+-- Kinds that add an entry to the history: a leaf is linked, a value is stored, a removal finds that
+-- its key is absent.
 use Rattle.std.specs.Prelude.{None, [], ℕ, ◌++◌, ◌<◌, ◌^◌, ◌∷◌, ◌≡◌, ◌≢◌, ◌⊎◌}
 use Rattle.snap_model.specs.History.{call_key, call_value}
 use Rattle.snap_model.specs.declared.call.Entry.{Entry}
@@ -27,7 +28,8 @@ pub record MayLinkLeaf (s : State) (parent : ℕ) (d : Side) (row : ℕ) (e : En
   pub parent_live : IsParent s parent d
   pub no_child : s.link parent d ≡ 0
   pub no_change : s.pending parent d ≡ plain
-  pub place : (parent ≡ 0) ⊎ OnWay s.tree (call_key e.call) parent × Toward d (call_key e.call) (s.key parent)
+  pub place : (parent ≡ 0)
+      ⊎ OnWay s.tree (call_key e.call) parent × Toward d (call_key e.call) (s.key parent)
   -- the call
   pub is_put : call_value e.call ≢ None
   pub small : call_key e.call < 2 ^ 64

@@ -1,6 +1,7 @@
--- A rotation lowers a row and raises its child on a side, in five steps. Row gets the shrinking mark; its link on that side
--- takes over the subtree between the two; the raised row's link across takes row; the parent's link takes the raised row,
--- and there the tree changes; the mark is cleared with the next count. Right and left are one: d is the side of the child.
+-- A rotation lowers a row and raises its child on a side, in five steps. Row gets the shrinking
+-- mark; its link on that side takes over the subtree between the two; the raised row's link across
+-- takes row; the parent's link takes the raised row, and there the tree changes; the mark is
+-- cleared with the next count. Right and left are one: d is the side of the child.
 use Rattle.std.specs.Prelude.{ℕ, ◌+◌, ◌<◌, ◌≡◌, ◌≢◌}
 use Rattle.snap_stamp.specs.Sides.{other}
 use Rattle.snap_stamp.specs.Stamps.{IsLowering, IsUnmarked, count_of, last_count}
@@ -51,12 +52,14 @@ pub record MayLinkRaised (s : State) (row : ℕ) (d : Side) (raised : ℕ) : Typ
 abbrev pub parent_linked : State → ℕ → Side → ℕ → Side → ℕ → State
 parent_linked s parent p row d raised = record s {
   link = relink s.link parent p raised;
-  links = relink (relink (relink s.links row d (s.link row d)) raised (other d) row) parent p raised;
+  links =
+      relink (relink (relink s.links row d (s.link row d)) raised (other d) row) parent p raised;
   tree = rotated row d s.tree;
   pending = relink (relink s.pending row d plain) raised (other d) plain;
 }
 
-pub record MayLinkParent (s : State) (parent : ℕ) (p : Side) (row : ℕ) (d : Side) (raised : ℕ) : Type 0 where
+pub record MayLinkParent (s : State) (parent : ℕ) (p : Side) (row : ℕ) (d : Side)
+    (raised : ℕ) : Type 0 where
   pub writing : s.writers ≢ 0
   -- the three rows, one below the other
   pub parent_live : IsParent s parent p

@@ -1,5 +1,5 @@
--- A row without a value and with one child at most leaves the tree in two steps. It gets the unlinked mark, by which the
--- tree is already without it; then its parent's link is led past it.
+-- A row without a value and with one child at most leaves the tree in two steps. It gets the
+-- unlinked mark, by which the tree is already without it; then its parent's link is led past it.
 use Rattle.std.specs.Prelude.{if◌then◌else◌, ℕ, ◌+◌, ◌==◌, ◌≡◌, ◌≢◌, ◌⊎◌}
 use Rattle.snap_stamp.specs.Stamps.{IsUnmarked}
 use Rattle.snap_stamp.specs.declared.side.Side.{Side}

@@ -1,4 +1,5 @@
--- Kinds that store a word and move no link of the tree: words of a row that isn't linked yet, a lock, the header, a height.
+-- Kinds that store a word and move no link of the tree: words of a row that isn't linked yet, a
+-- lock, the header, a height.
 use Rattle.std.specs.Prelude.{ℕ, ◌+◌, ◌/◌, ◌<◌, ◌≡◌, ◌≢◌, ◌≤◌}
 use Rattle.snap_stamp.specs.declared.side.Side.{Side}
 use Rattle.snap_rule.specs.Rule.{IsLive}
@@ -35,7 +36,8 @@ pub record MayCount (s : State) (g a w : ℕ) : Type 0 where
 
 -- `store_height`
 abbrev pub height_stored : State → ℕ → ℕ → State
-height_stored s row h = record s { height = changed s.height row h; tree = with_height row h s.tree }
+height_stored s row h =
+    record s { height = changed s.height row h; tree = with_height row h s.tree }
 
 pub record MayStoreHeight (s : State) (row : ℕ) : Type 0 where
   pub writing : s.writers ≢ 0
