@@ -46,4 +46,4 @@ all_copied rows old a b c d row key word height left right value ea eb ec ed k v
 
 -- the seat as contracts see it
 abbrev pub seen_as : TableId → Sat → ℕ → Cloned
-seen_as table me next = record { table = table; rows = me.0.rows; base = me.0.base.history; parts = me.0.base.parts; drawn = me.0.base.drawn; balance = me.0.base.balance; next = next; handed = me.0.handed; epochs = me.0.epochs; worn = me.0.worn; outworn = me.0.outworn }
+seen_as table me next = record { table = table; rows = me.0.rows; base = me.0.base.history; parts = me.0.base.parts; drawn = me.0.base.drawn; balance = me.0.base.balance; next = next; handed = me.0.noted.handed; epochs = me.0.noted.epochs; worn = me.0.noted.worn; outworn = me.0.outworn }

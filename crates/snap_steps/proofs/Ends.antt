@@ -174,7 +174,7 @@ module _ (about : About) (words : List ℕ) (views : List View) (k : Kept about 
     theirs = few.1;
   }
 
-  pub knows_cuts : v.epochs ≤ all_cuts v
+  pub knows_cuts : v.noted.epochs ≤ all_cuts v
   knows_cuts = omega (arith, k.cut, total_alone all_cuts views id v at none_cut, (k.notes id v at).epochs_are)
 
   pub ends : (last : Known) (writes drawn added taken : ℕ) → last.view ≡ v → v.stage ≡ Idle → get_elem? words 0 ≡ some drawn → get_elem? words 3 ≡ some writes → CountsPairs v added taken → writes < 2 ^ 64

@@ -33,13 +33,13 @@ in_append linked [] m h k = k
 in_append linked (x ∷ xs) m h k = (h.0, in_append linked xs m h.1 k)
 
 -- a load of a link of a row that was linked leads to another
-pub led_in : (m : Memory) (g : Beside) (v : View) (r : ℕ) (f : Field) (n : ℕ) → TableOk (state_of m g) → AllLinked g.linked v.reached → field f (row m.rows r) ≡ n → AllLinked g.linked (led_to v r f n)
+pub led_in : (m : Memory) (g : Beside) (v : View) (r : ℕ) (f : Field) (n : ℕ) → TableOk (state_of m g) → AllLinked g.linked v.trail.reached → field f (row m.rows r) ≡ n → AllLinked g.linked (led_to v r f n)
 led_in m g v r f n ok reached is =
     let P : List ℕ → Type 0 = AllLinked g.linked in
-    cond_both (is_link f) (cond (nat_lt 0 n) (cond (nat_lt 0 (times r v.reached)) (n ∷ []) (cond (r == 0) (cond (same_field f Right) (n ∷ []) []) [])) []) [] P
-    (λ link. cond_both (nat_lt 0 n) (cond (nat_lt 0 (times r v.reached)) (n ∷ []) (cond (r == 0) (cond (same_field f Right) (n ∷ []) []) [])) [] P
-    (λ some_row. let pos : 0 < n = grind (arith, nat_tests) in cond_both (nat_lt 0 (times r v.reached)) (n ∷ []) (cond (r == 0) (cond (same_field f Right) (n ∷ []) []) []) P
-    (λ was. let held : 0 < times r v.reached = grind (arith, nat_tests) in (in_times n g.linked (by_link f link is pos (inr (in_of g.linked v.reached r reached held))), tt))
+    cond_both (is_link f) (cond (nat_lt 0 n) (cond (nat_lt 0 (times r v.trail.reached)) (n ∷ []) (cond (r == 0) (cond (same_field f Right) (n ∷ []) []) [])) []) [] P
+    (λ link. cond_both (nat_lt 0 n) (cond (nat_lt 0 (times r v.trail.reached)) (n ∷ []) (cond (r == 0) (cond (same_field f Right) (n ∷ []) []) [])) [] P
+    (λ some_row. let pos : 0 < n = grind (arith, nat_tests) in cond_both (nat_lt 0 (times r v.trail.reached)) (n ∷ []) (cond (r == 0) (cond (same_field f Right) (n ∷ []) []) []) P
+    (λ was. let held : 0 < times r v.trail.reached = grind (arith, nat_tests) in (in_times n g.linked (by_link f link is pos (inr (in_of g.linked v.trail.reached r reached held))), tt))
     (λ not. cond_both (r == 0) (cond (same_field f Right) (n ∷ []) []) [] P
     (λ zero_row. cond_both (same_field f Right) (n ∷ []) [] P
     (λ right. (in_times n g.linked (by_link f link is pos (inl (eqb-true r 0 zero_row))), tt))

@@ -66,7 +66,7 @@ reading_evolves s s' ev seen Resting b h = tt
 reading_evolves s s' ev seen (On k t) b h = point_kept s s' ev seen k t b h
 
 pub ways_evolve : (s s' : Table) (views : List View) → Evolves s s' → Each (IsIn s.history) views → Each (IsOnWay s) views → Each (IsOnWay s') views
-ways_evolve s s' views ev seen ways j u at = reading_evolves s s' ev u.seen u.reads (seen j u at).0 (ways j u at)
+ways_evolve s s' views ev seen ways j u at = reading_evolves s s' ev u.seen u.way.reads (seen j u at).0 (ways j u at)
 
 -- a step evolves the table, keeps its rule, and leaves these rows alone
 abbrev pub Moves : Table → Table → (ℕ → Type 0) → Type 0

@@ -27,7 +27,8 @@ built [] trees = trees
 built (Nothing ∷ more) trees = built more (empty ∷ trees)
 built (Top row key value height ∷ more) [] = built more []
 built (Top row key value height ∷ more) (b ∷ []) = built more (b ∷ [])
-built (Top row key value height ∷ more) (b ∷ a ∷ trees) = built more (node (record { row = row; key = key; value = value; height = height }) a b ∷ trees)
+built (Top row key value height ∷ more) (b ∷ a ∷ trees) =
+    built more (node (record { row = row; key = key; value = value; height = height }) a b ∷ trees)
 
 abbrev pub first_tree : List Tree → Tree
 first_tree [] = empty
@@ -52,7 +53,8 @@ pub record IsCloneOf (history : List Entry) (t : Tree) : Type 0 where
 abbrev pub ArePlaced : ℕ → Tree → Type 0
 ArePlaced rows t = EachRow (λ r. (0 < r) × (r ≤ rows)) t
 
--- where so many rows of as many were handed out, the tree is settled, or every row was, or the row was whose stamp is at its greatest count
+-- where so many rows of as many were handed out, the tree is settled, or every row was, or the row
+-- was whose stamp is at its greatest count
 abbrev pub IsCaused : (rows next : ℕ) → Tree → Balance → Type 0
 IsCaused rows next t Settled = IsSettledTree t
 IsCaused rows next t RowsOut = rows ≤ next
@@ -64,7 +66,11 @@ pub record IsWeighed (rows next : ℕ) (t : Tree) (balance : Balance) : Type 0 w
   pub few : size t ≤ next
   pub low : next ≤ rows
 
--- the seat of a clone: its table and how many rows that has, the history and, in its parts, the tree at the cut, how many rows were handed out then and whether the tree is settled, the word `next` as it was loaded since, the greatest `next` and `epoch` that its pass had noted, whether the pass or the seat noted a stamp at its greatest count, and the rows with such a stamp that the seat found
+-- the seat of a clone: its table and how many rows that has, the history and, in its parts, the
+-- tree at the cut, how many rows were handed out then and whether the tree is settled, the word
+-- `next` as it was loaded since, the greatest `next` and `epoch` that its pass had noted, whether
+-- the pass or the seat noted a stamp at its greatest count, and the rows with such a stamp that the
+-- seat found
 pub record Cloned : Type 0 where
   pub table : TableId
   pub rows : ℕ
@@ -86,7 +92,7 @@ image c = tree_of c.parts
 pub record IsNotedSince (v : View) (next : ℕ) : Type 0 where
   pub before : List WordNote
   pub after : List WordNote
-  pub is : v.notes ≡ before ++ Next next ∷ after
+  pub is : v.noted.notes ≡ before ++ Next next ∷ after
   pub since : v.base.noted ≤ length before
 
 -- u is the tree t, or stands below its top
@@ -122,4 +128,5 @@ FitsLink rows Value x = Unit {0}
 
 -- the word is that of the tree's node of this row
 abbrev pub TellsWord : ℕ → Tree → ℕ → Field → ℕ → Type 0
-TellsWord rows t row f x = (n : Node) (a b : Tree) → IsWithin (node n a b) t → n.row ≡ row → NodeHas n a b f x × FitsLink rows f x
+TellsWord rows t row f x = (n : Node) (a b : Tree) → IsWithin (node n a b) t → n.row ≡ row
+    → NodeHas n a b f x × FitsLink rows f x

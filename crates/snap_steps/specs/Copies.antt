@@ -20,15 +20,40 @@ IsCloneAt seat rows = (seat.table ≡ rows.table) × (seat.rows ≡ rows.rows)
 
 -- the clone that the pass has cut
 abbrev pub clone_of : Known → ℕ → Cloned
-clone_of k next = record { table = k.table; rows = k.view.rows; base = k.view.base.history; parts = k.view.base.parts; drawn = k.view.base.drawn; balance = k.view.base.balance; next = next; handed = k.view.handed; epochs = k.view.epochs; worn = k.view.worn; outworn = k.view.outworn }
+clone_of k next =
+    record {
+      table = k.table;
+      rows = k.view.rows;
+      base = k.view.base.history;
+      parts = k.view.base.parts;
+      drawn = k.view.base.drawn;
+      balance = k.view.base.balance;
+      next = next;
+      handed = k.view.noted.handed;
+      epochs = k.view.noted.epochs;
+      worn = k.view.noted.worn;
+      outworn = k.view.outworn;
+    }
 
 -- the seat, once it has loaded this stamp of a row
 abbrev pub with_stamp : Cloned → (row stamp : ℕ) → Cloned
-with_stamp c row stamp = record c { worn = c.worn || is_last Stamp stamp; outworn = found_out row stamp c.outworn }
+with_stamp c row stamp =
+    record c { worn = c.worn || is_last Stamp stamp; outworn = found_out row stamp c.outworn }
 
--- a pass that has come to know what a clone's seat had seen and noted, where this is what the two have seen together
+-- a pass that has come to know what a clone's seat had seen and noted, where this is what the two
+-- have seen together
 abbrev pub took_back : View → Cloned → List Entry → View
-took_back v c seen = record v { seen = seen; reads = Resting; handed = max v.handed c.handed; epochs = max v.epochs c.epochs; worn = v.worn || c.worn }
+took_back v c seen =
+    record v {
+      seen = seen;
+      way = record v.way { reads = Resting };
+      noted =
+          record v.noted {
+            handed = max v.noted.handed c.handed;
+            epochs = max v.noted.epochs c.epochs;
+            worn = v.noted.worn || c.worn;
+          };
+    }
 
 -- the seat was given back to the pass. What the pass has seen stays, if the clone's base begins it
 pub record TakesBack (old new : Known) (clone : Cloned) : Type 0 where
@@ -48,4 +73,5 @@ pub record IsCopyOf (n : Node) (a b : Tree) (copy : RowCopy) : Type 0 where
 
 -- the copy is of the tree's node of this row
 abbrev pub CopiesRow : Tree → ℕ → RowCopy → Type 0
-CopiesRow t row copy = (n : Node) (a b : Tree) → IsWithin (node n a b) t → n.row ≡ row → IsCopyOf n a b copy
+CopiesRow t row copy =
+    (n : Node) (a b : Tree) → IsWithin (node n a b) t → n.row ≡ row → IsCopyOf n a b copy

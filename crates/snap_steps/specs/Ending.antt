@@ -15,7 +15,8 @@ use Rattle.snap_steps.specs.States.{state_of}
 use Rattle.snap_steps.specs.declared.rule.About.{About}
 use Rattle.snap_steps.specs.declared.view.View.{View}
 
--- a closed table: how many entries its history has, how many pairs its map, how many rows were handed out, and what the pass knew that closed it
+-- a closed table: how many entries its history has, how many pairs its map, how many rows were
+-- handed out, and what the pass knew that closed it
 pub record Ended : Type 0 where
   pub writes : ℕ
   pub pairs : ℕ
@@ -28,9 +29,10 @@ SpeaksForAll v = (i : ℕ) → i < v.passes → Among i (numbers v)
 
 -- where a pass speaks for every number, each epoch that it noted is one of a cut that it knows
 abbrev pub KnowsCuts : View → Type 0
-KnowsCuts v = SpeaksForAll v → v.epochs ≤ all_cuts v
+KnowsCuts v = SpeaksForAll v → v.noted.epochs ≤ all_cuts v
 
--- the pass names each number below the number of passes once, and no other. None of these has more than 2^48 uses
+-- the pass names each number below the number of passes once, and no other. None of these has more
+-- than 2^48 uses
 pub record NamesAll (v : View) : Type 0 where
   pub once : (i : ℕ) → i < v.passes → times i (numbers v) ≡ 1
   pub none_later : (i : ℕ) → v.passes ≤ i → times i (numbers v) ≡ 0
@@ -48,7 +50,7 @@ pub record IsLastState (v : View) (drawn : ℕ) : Type 0 where
   pub at : get_elem? views id ≡ some v
   pub kept : Kept about words views
   pub next : drawn ≡ kept.m.next
-  pub worn : v.worn ≡ true → IsWorn (state_of kept.m kept.g)
+  pub worn : v.noted.worn ≡ true → IsWorn (state_of kept.m kept.g)
 
 -- the pass has seen the whole history, and knows the entries of every number
 pub record KnowsAll (v : View) : Type 0 where
@@ -57,7 +59,8 @@ pub record KnowsAll (v : View) : Type 0 where
   pub theirs : AreTheirs v.seen v.admitted
   pub others : (i : ℕ) → times i (numbers v) ≡ 0 → calls_of v.seen i ≡ []
 
--- what is known beside the numbers: the rows that were handed out are those that the pass and the numbers that it admitted drew, each once
+-- what is known beside the numbers: the rows that were handed out are those that the pass and the
+-- numbers that it admitted drew, each once
 pub record Closes (pass : Known) (front : Ended) : Type 0 where
   pub last : front.last ≡ pass
   pub knows : KnowsAll pass.view
@@ -65,8 +68,8 @@ pub record Closes (pass : Known) (front : Ended) : Type 0 where
   pub writes : front.writes ≡ length pass.view.seen
   pub few : length pass.view.seen < 2 ^ 64
   pub pairs : front.pairs ≡ length (after pass.view.seen)
-  pub handed : pass.view.handed ≤ front.drawn
+  pub handed : pass.view.noted.handed ≤ front.drawn
   pub drawn : front.drawn ≤ pass.view.rows
   pub drew : AreDrawn front.drawn (pass.view ∷ [])
-  pub epochs : pass.view.epochs ≤ all_cuts pass.view
+  pub epochs : pass.view.noted.epochs ≤ all_cuts pass.view
   pub state : IsLastState pass.view front.drawn

@@ -18,7 +18,8 @@ fact r f n = record { row = r; field = f; word = n }
 -- without what was known of this field of this row
 abbrev pub forgotten : List Fact → ℕ → Field → List Fact
 forgotten [] r f = []
-forgotten (x ∷ xs) r f = cond ((x.row == r) && same_field x.field f) (forgotten xs r f) (x ∷ forgotten xs r f)
+forgotten (x ∷ xs) r f =
+    cond ((x.row == r) && same_field x.field f) (forgotten xs r f) (x ∷ forgotten xs r f)
 
 -- without what was known of this row
 abbrev pub forgotten_row : List Fact → ℕ → List Fact
@@ -28,7 +29,8 @@ forgotten_row (x ∷ xs) r = cond (x.row == r) (forgotten_row xs r) (x ∷ forgo
 -- without what was known of the heights below this row
 abbrev pub heights_forgotten : List ChildHeight → ℕ → List ChildHeight
 heights_forgotten [] r = []
-heights_forgotten (x ∷ xs) r = cond (x.row == r) (heights_forgotten xs r) (x ∷ heights_forgotten xs r)
+heights_forgotten (x ∷ xs) r =
+    cond (x.row == r) (heights_forgotten xs r) (x ∷ heights_forgotten xs r)
 
 -- the word that is known of this field of this row
 abbrev pub word_in : List Fact → ℕ → Field → ℕ
@@ -42,13 +44,14 @@ IsKnown (y ∷ ys) r f x = ((y.row ≡ r) × (y.field ≡ f) × (y.word ≡ x)) 
 -- what is known of held rows is so
 abbrev pub AreFacts : List Row → List ℕ → List Fact → Type 0
 AreFacts rows holds [] = Unit {0}
-AreFacts rows holds (x ∷ xs) = (field x.field (row rows x.row) ≡ x.word) × (Among x.row holds) × AreFacts rows holds xs
+AreFacts rows holds (x ∷ xs) =
+    (field x.field (row rows x.row) ≡ x.word) × (Among x.row holds) × AreFacts rows holds xs
 
 -- under its lock the row is known to be of this epoch and without the mark of the unlinked
 pub record IsBorn (v : View) (r : ℕ) : Type 0 where
   pub birth : ℕ
-  pub is_birth : IsKnown v.knows r Birth birth
-  pub now : Among birth v.present
+  pub is_birth : IsKnown v.words.knows r Birth birth
+  pub now : Among birth v.words.present
   pub stamp : ℕ
-  pub is_stamp : IsKnown v.knows r Stamp stamp
+  pub is_stamp : IsKnown v.words.knows r Stamp stamp
   pub unmarked : stamp % 2 ≡ 0

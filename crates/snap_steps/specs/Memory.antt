@@ -39,7 +39,8 @@ epoch_at = 4
 
 abbrev pub words_of_rows : List Row → List ℕ
 words_of_rows [] = []
-words_of_rows (r ∷ rs) = r.key ∷ r.birth ∷ r.stamp ∷ r.lock ∷ r.height ∷ r.left ∷ r.right ∷ r.value ∷ words_of_rows rs
+words_of_rows (r ∷ rs) =
+    r.key ∷ r.birth ∷ r.stamp ∷ r.lock ∷ r.height ∷ r.left ∷ r.right ∷ r.value ∷ words_of_rows rs
 
 abbrev pub words_of : Memory → List ℕ
 words_of m = m.next ∷ m.gate ∷ m.left ∷ m.done ∷ m.epoch ∷ 0 ∷ 0 ∷ 0 ∷ words_of_rows m.rows
@@ -65,7 +66,8 @@ with_field Right n r = record r { right = n }
 with_field Value n r = record r { value = n }
 
 abbrev pub empty_row : Row
-empty_row = record { key = 0; birth = 0; stamp = 0; lock = 0; height = 0; left = 0; right = 0; value = 0 }
+empty_row =
+    record { key = 0; birth = 0; stamp = 0; lock = 0; height = 0; left = 0; right = 0; value = 0 }
 
 abbrev pub row : List Row → ℕ → Row
 row rows r = slice_index_or rows r empty_row

@@ -22,7 +22,8 @@ all_uses v = v.uses + total (λ (a : Admitted). a.uses) v.admitted
 abbrev pub all_cuts : View → ℕ
 all_cuts v = length v.cuts + total (λ (a : Admitted). length a.cuts) v.admitted
 
--- how often a row stands in what the view and the numbers that it admitted drew, and how many rows these are
+-- how often a row stands in what the view and the numbers that it admitted drew, and how many rows
+-- these are
 abbrev pub times_drawn : ℕ → View → ℕ
 times_drawn r v = times r v.drawn + total (λ (a : Admitted). times r a.drawn) v.admitted
 

@@ -40,11 +40,44 @@ abbrev pub no_base : Base
 no_base = record { history = []; parts = []; noted = 0; drawn = 0; balance = Settled }
 
 abbrev pub blank : ℕ → ℕ → Role → ℕ → View
-blank rows passes role who = record { rows = rows; passes = passes; who = who; role = role; stage = Idle; seen = []; mine = []; notes = []; handed = 0; epochs = 0; worn = false; drawn = []; cuts = []; uses = 0; admitted = []; base = no_base; outworn = []; holds = []; knows = []; refused = []; lasting = []; reached = []; own = []; wrote = []; reads = Resting; confirmed = []; place = Resting; tries = quiet.Idle; doing = Nothing; heights = []; debt = no_debt; present = []; copies = []; steps = 0; joined = [] }
+blank rows passes role who =
+    record {
+      rows = rows;
+      passes = passes;
+      who = who;
+      role = role;
+      stage = Idle;
+      seen = [];
+      mine = [];
+      noted = record { notes = []; handed = 0; epochs = 0; worn = false };
+      drawn = [];
+      cuts = [];
+      uses = 0;
+      admitted = [];
+      base = no_base;
+      outworn = [];
+      holds = [];
+      words = record { knows = []; refused = []; lasting = []; present = [] };
+      trail = record { reached = []; steps = 0 };
+      fresh = record { own = []; wrote = []; copies = [] };
+      way = record { reads = Resting; confirmed = []; place = Resting };
+      tries = quiet.Idle;
+      doing = Nothing;
+      heights = [];
+      debt = no_debt;
+      joined = [];
+    }
 
 -- a seat that counts nowhere, and knows this
 abbrev pub silent : ℕ → ℕ → List Entry → ℕ → ℕ → Bool → Base → List ℕ → View
-silent rows passes seen handed epochs worn base outworn = record (blank rows passes Noting 0) { seen = seen; handed = handed; epochs = epochs; worn = worn; base = base; outworn = outworn }
+silent rows passes seen handed epochs worn base outworn =
+    let v : View = blank rows passes Noting 0 in
+    record v {
+      seen = seen;
+      noted = record v.noted { handed = handed; epochs = epochs; worn = worn };
+      base = base;
+      outworn = outworn;
+    }
 
 abbrev pub opener : ℕ → ℕ → ℕ → View
 opener rows passes who = blank rows passes Opening who

@@ -1,4 +1,5 @@
--- The rule that holds between any two steps: a memory and what stands beside it, of which each part is true.
+-- The rule that holds between any two steps: a memory and what stands beside it, of which each part
+-- is true.
 pub mod Words
 pub mod Names
 pub mod History
@@ -78,16 +79,17 @@ pub record Kept (about : About) (words : List ℕ) (views : List View) : Type 0 
   pub table : TableOk (state_of m g)
   pub writers : g.writers ≡ total (λ v. in_write v.stage) views
   -- a link is in a change only where a pass is in one that names it, and that pass holds the rows
-  pub changes : (n : ℕ) (d : Side) → total (λ v. changing n d v.doing) views ≡ 0 → g.pending n d ≡ plain
+  pub changes : (n : ℕ) (d : Side) → total (λ v. changing n d v.doing) views ≡ 0
+      → g.pending n d ≡ plain
   pub doing : Each (λ v. DoingOk (state_of m g) v.doing) views
   pub held : Each HoldsIts views
   pub present : Each (KnowsEpoch m.epoch) views
-  pub reached : Each (λ v. AllLinked g.linked v.reached) views
+  pub reached : Each (λ v. AllLinked g.linked v.trail.reached) views
   pub ways : Each (IsOnWay (state_of m g)) views
   pub places : Each (KnowsPlace (state_of m g)) views
   pub apart : AreApart m.next m.rows g.linked views
   pub worn : Each (KnowsWorn (state_of m g)) views
-  pub lasting : Each (λ v. AreLasting (state_of m g) v.lasting) views
+  pub lasting : Each (λ v. AreLasting (state_of m g) v.words.lasting) views
   pub based : Each (KnowsBase (state_of m g)) views
   pub tries : Each (KnowsTry (state_of m g)) views
   pub marked : AreMarked m.rows views

@@ -1,17 +1,12 @@
 -- The state of a table: its memory, and what the rule says beside it.
+pub use Rattle.snap_stamp.specs.Sides.{link_field}
 use Rattle.std.specs.Prelude.{ℕ}
 use Rattle.snap_rule.specs.State.{State, Beside}
 use Rattle.snap_rule.specs.Updates.{changed, relink}
 use Rattle.snap_stamp.specs.declared.layout.Field.{Field}
 use Rattle.snap_stamp.specs.declared.layout.Field.TheVariants.{Left, Right, Key, Birth, Stamp, Lock, Height, Value}
-use Rattle.snap_stamp.specs.declared.side.Side.{Side}
 use Rattle.snap_steps.specs.Memory.{Memory, row, field}
 use Rattle.snap_stamp.specs.declared.side.Side.TheVariants as sides
-
--- the field of a link
-abbrev pub link_field : Side → Field
-link_field sides.Left = Left
-link_field sides.Right = Right
 
 -- the state whose rows have these words
 abbrev pub state_with : (Field → ℕ → ℕ) → Memory → Beside → State

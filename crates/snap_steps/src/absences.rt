@@ -13,7 +13,7 @@ use crate::fields::index_of;
 use crate::pass::Pass;
 use crate::rows::Rows;
 use crate::view::View;
-use crate::writes::{Saying, link_of};
+use crate::writes::Saying;
 use atomic_table::Play;
 use snap_stamp::{Field, Key, RowNo, Side};
 use std::marker::{Brand, PhantomData};
@@ -32,9 +32,11 @@ fn confirm_below_keyed<J: Saying>(rows: &Rows, pass: &mut Pass, row: RowNo, fiel
     requires row { row ≤ rows.now.rows }
     requires writing { pass.old.view.stage ≡ Writing false false }
     requires place { IsPlace pass.old.view J.key row field }
-    requires copies { AllAre J.key pass.old.view.copies }
+    requires copies { AllAre J.key pass.old.view.fresh.copies }
     requires whole { pass.old.view.doing ≡ Nothing }
-    ensures { (log : _) × Enters pass.old.view log (entry pass.old.view.who (Remove J.key) None) × Becomes pass.old pass.new (made_entry pass.old.view log (entry pass.old.view.who (Remove J.key) None)) }
+    ensures { (log : _) × Enters pass.old.view log (entry pass.old.view.who (Remove J.key) None)
+        × Becomes pass.old pass.new
+        (made_entry pass.old.view log (entry pass.old.view.who (Remove J.key) None)) }
 {
     let _key = key;
     let word = index_of(row, field);
@@ -50,10 +52,12 @@ pub fn confirm_absent_below(rows: &Rows, pass: &mut Pass, row: RowNo, side: Side
     requires row { row ≤ rows.now.rows }
     requires writing { pass.old.view.stage ≡ Writing false false }
     requires place { IsPlace pass.old.view key row (link_field side) }
-    requires copies { AllAre key pass.old.view.copies }
+    requires copies { AllAre key pass.old.view.fresh.copies }
     requires whole { pass.old.view.doing ≡ Nothing }
-    ensures { (log : _) × Enters pass.old.view log (entry pass.old.view.who (Remove key) None) × Becomes pass.old pass.new (made_entry pass.old.view log (entry pass.old.view.who (Remove key) None)) }
+    ensures { (log : _) × Enters pass.old.view log (entry pass.old.view.who (Remove key) None)
+        × Becomes pass.old pass.new
+        (made_entry pass.old.view log (entry pass.old.view.who (Remove key) None)) }
 {
-    let field = link_of(side);
+    let field = side.link();
     confirm_below_keyed::<Brand>(rows, pass, row, field, key);
 }

@@ -1,19 +1,21 @@
 //! Where the to-do key of a pass moves: up from a settled row to its parent, or to a row at which nothing that is owed is
-//! lost. Each is a load that changes no word.
+//! lost; and where it goes, since the one row that is owed is settled. Each is a load that changes no word.
 ghost use Rattle.std.specs.Prelude.{◌≡◌, ◌≤◌, ℕ, Some};
 ghost use Rattle.snap_rule.specs.declared.change.Doing.TheVariants.{Nothing};
 ghost use Rattle.snap_stamp.specs.declared.layout.Field.TheVariants.{Key};
 ghost use Rattle.snap_stamp.specs.declared.side.Side.{Side};
 ghost use Rattle.snap_stamp.specs.declared.side.Side.TheVariants.{Right};
-ghost use Rattle.snap_steps.specs.Facts.{IsKnown};
+ghost use Rattle.snap_steps.specs.Counting.{Among};
+ghost use Rattle.snap_steps.specs.Facts.{IsBorn, IsKnown};
+ghost use Rattle.snap_steps.specs.Owed.{ListsOnly};
 ghost use Rattle.snap_steps.specs.Seen.{IsOf, Becomes};
-ghost use Rattle.snap_steps.specs.Steps.Settling.{IsHeldRow, IsSeenSettled, MayAimAt, aimed_view, passed_up, row_aimed, up_passed};
+ghost use Rattle.snap_steps.specs.Steps.Settling.{IsHeldRow, IsSeenSettled, MayAimAt, aimed_view, last_settled, passed_up, row_aimed, settled_last, up_passed};
 ghost use Rattle.snap_steps.specs.Steps.Unlinking.{HasKey, IsPair};
 
 use crate::fields::index_of;
+use crate::owed::Tally;
 use crate::pass::Pass;
 use crate::rows::Rows;
-use crate::unlinking::to_do_at;
 use crate::view::View;
 use atomic_table::Play;
 use snap_stamp::{Field, Key, RowNo, Side};
@@ -82,11 +84,12 @@ fn up_told<J: Rising>(
     key: Key,
     parent_key: Key,
 )
-    requires told { (parent ≡ J.upper) × (side ≡ J.upper_side) × (row ≡ J.lower) × (key ≡ J.lower_key) × (parent_key ≡ J.upper_key) }
+    requires told { (parent ≡ J.upper) × (side ≡ J.upper_side) × (row ≡ J.lower)
+        × (key ≡ J.lower_key) × (parent_key ≡ J.upper_key) }
     requires table { IsOf pass.old rows.now }
     requires row { row ≤ rows.now.rows }
     requires pair { IsPair pass.old.view J.upper J.upper_side J.lower }
-    requires key { IsKnown pass.old.view.knows J.lower Key J.lower_key }
+    requires key { IsKnown pass.old.view.words.knows J.lower Key J.lower_key }
     requires aims { pass.old.view.debt.to_do ≡ Some J.lower_key }
     requires parent_key { HasKey pass.old.view J.upper J.upper_key }
     requires settled { IsSeenSettled pass.old.view J.lower }
@@ -96,8 +99,9 @@ fn up_told<J: Rising>(
     let _told = (side, key);
     let word = index_of(row, Field::Height);
     rows.table.shared.load::<PassUp<J>>(&mut pass.seat, word);
-    let to_do = to_do_at(parent, parent_key);
-    pass.to_do = to_do;
+    let listed = pass.owed.listed.without(row);
+    let owed = Tally::at(parent, parent_key, listed);
+    pass.owed = owed;
 }
 
 /// Takes a settled row off the list: the to-do key, which is the row's, goes up to its parent. Above row 0 nothing is
@@ -114,7 +118,7 @@ pub fn pass_up(
     requires table { IsOf pass.old rows.now }
     requires row { row ≤ rows.now.rows }
     requires pair { IsPair pass.old.view parent side row }
-    requires key { IsKnown pass.old.view.knows row Key key }
+    requires key { IsKnown pass.old.view.words.knows row Key key }
     requires aims { pass.old.view.debt.to_do ≡ Some key }
     requires parent_key { HasKey pass.old.view parent parent_key }
     requires settled { IsSeenSettled pass.old.view row }
@@ -122,6 +126,28 @@ pub fn pass_up(
     ensures { Becomes pass.old pass.new (passed_up pass.old.view parent parent_key row) }
 {
     up_told::<Brand>(rows, pass, parent, side, row, key, parent_key);
+}
+
+struct SettleLast;
+
+impl Play<(), View> for SettleLast {
+    ghost then = { last_settled };
+}
+
+/// Takes the last row off the list, which is held and settled: nothing is left to do.
+pub fn settle_last(rows: &Rows, pass: &mut Pass, row: RowNo)
+    requires table { IsOf pass.old rows.now }
+    requires row { row ≤ rows.now.rows }
+    requires held { Among row pass.old.view.holds }
+    requires live { (Among row pass.old.view.trail.reached) × IsBorn pass.old.view row }
+    requires settled { IsSeenSettled pass.old.view row }
+    requires only { ListsOnly row pass.old.view.debt.list }
+    requires whole { pass.old.view.doing ≡ Nothing }
+    ensures { Becomes pass.old pass.new (settled_last pass.old.view) }
+{
+    let word = index_of(row, Field::Height);
+    rows.table.shared.load::<SettleLast>(&mut pass.seat, word);
+    pass.owed = Tally::none();
 }
 
 fn aim_told<J: Aiming>(rows: &Rows, pass: &mut Pass, row: RowNo, key: Key)
@@ -136,8 +162,8 @@ fn aim_told<J: Aiming>(rows: &Rows, pass: &mut Pass, row: RowNo, key: Key)
 {
     let word = index_of(row, Field::Stamp);
     rows.table.shared.load::<TakeAim<J>>(&mut pass.seat, word);
-    let to_do = to_do_at(row, key);
-    pass.to_do = to_do;
+    let owed = Tally::at(row, key, pass.owed.listed);
+    pass.owed = owed;
 }
 
 /// The to-do key comes to be that of a held row, `key`, where nothing that is owed is lost: it is that already; or the row

@@ -29,7 +29,7 @@ impl Play<(), View> for NoteBirth {
 pub fn load_birth(rows: &Rows, pass: &mut Pass, row: RowNo) -> u64
     requires table { IsOf pass.old rows.now }
     requires row { row ≤ rows.now.rows }
-    requires reached { Among row pass.old.view.reached }
+    requires reached { Among row pass.old.view.trail.reached }
     ensures pass { Becomes pass.old pass.new (born pass.old.view row result) }
     ensures past { IsPast pass.old.view result }
 {
@@ -42,9 +42,9 @@ pub fn load_birth(rows: &Rows, pass: &mut Pass, row: RowNo) -> u64
 pub fn note_birth(rows: &Rows, pass: &mut Pass, key: Key, row: RowNo) -> u64
     requires table { IsOf pass.old rows.now }
     requires row { row ≤ rows.now.rows }
-    requires reached { Among row pass.old.view.reached }
-    requires way { (point : Point) × (pass.old.view.reads ≡ On key point) }
-    requires confirmed { pass.old.view.confirmed ≡ row ∷ [] }
+    requires reached { Among row pass.old.view.trail.reached }
+    requires way { (point : Point) × (pass.old.view.way.reads ≡ On key point) }
+    requires confirmed { pass.old.view.way.confirmed ≡ row ∷ [] }
     ensures pass { Becomes pass.old pass.new (birth_noted pass.old.view key row result) }
     ensures past { IsPast pass.old.view result }
 {

@@ -10,6 +10,7 @@ ghost use Rattle.snap_steps.specs.Seen.{IsOf, Becomes};
 ghost use Rattle.snap_steps.specs.Steps.Changes.{IsTurn, TurnsFor, shrunk, shrinking_stored};
 
 use crate::fields::index_of;
+use crate::owed::Tally;
 use crate::pass::Pass;
 use crate::rows::Rows;
 use crate::view::View;
@@ -67,14 +68,17 @@ fn mark_placed<J: Turning>(
 )
     requires key { key ≡ J.key }
     requires aims { TurnsFor pass.old.view J.upper J.middle J.lower J.key }
-    requires turn { (parent ≡ J.upper) × (parent_side ≡ J.upper_side) × (row ≡ J.middle) × (side ≡ J.middle_side) × (raised ≡ J.lower) }
+    requires turn { (parent ≡ J.upper) × (parent_side ≡ J.upper_side) × (row ≡ J.middle)
+        × (side ≡ J.middle_side) × (raised ≡ J.lower) }
     requires table { IsOf pass.old rows.now }
     requires row { row ≤ rows.now.rows }
     requires place { IsTurn pass.old.view J.upper J.upper_side J.middle J.middle_side J.lower }
-    requires stamp { IsKnown pass.old.view.knows J.middle Stamp stamp }
+    requires stamp { IsKnown pass.old.view.words.knows J.middle Stamp stamp }
     requires count { (stamp % 4 ≡ 0) × (count_of stamp < last_count) }
     requires whole { pass.old.view.doing ≡ Nothing }
-    ensures { Becomes pass.old pass.new (shrunk pass.old.view J.upper J.upper_side J.middle J.middle_side J.lower (stamp + 2) J.key) }
+    ensures { Becomes pass.old pass.new
+        (shrunk pass.old.view J.upper J.upper_side J.middle J.middle_side J.lower
+        (stamp + 2) J.key) }
 {
     let _told = (parent, parent_side, side, raised);
     let word = index_of(row, Field::Stamp);
@@ -82,7 +86,11 @@ fn mark_placed<J: Turning>(
     rows.table
         .shared
         .store::<Shrink<J>>(&mut pass.seat, word, marked);
-    pass.to_do = Some(key);
+    let listed = pass.owed.listed.with_row(row);
+    pass.owed = Tally {
+        to_do: Some(key),
+        listed,
+    };
 }
 
 // The stamp with the shrinking mark.
@@ -111,10 +119,11 @@ pub fn mark_shrinking(
     requires row { row ≤ rows.now.rows }
     requires place { IsTurn pass.old.view parent parent_side row side raised }
     requires aims { TurnsFor pass.old.view parent row raised key }
-    requires stamp { IsKnown pass.old.view.knows row Stamp stamp }
+    requires stamp { IsKnown pass.old.view.words.knows row Stamp stamp }
     requires count { (stamp % 4 ≡ 0) × (count_of stamp < last_count) }
     requires whole { pass.old.view.doing ≡ Nothing }
-    ensures { Becomes pass.old pass.new (shrunk pass.old.view parent parent_side row side raised (stamp + 2) key) }
+    ensures { Becomes pass.old pass.new
+        (shrunk pass.old.view parent parent_side row side raised (stamp + 2) key) }
 {
     mark_placed::<Brand>(
         rows,

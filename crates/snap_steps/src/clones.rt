@@ -1,7 +1,7 @@
 //! Clones: the seat of a clone, and what it reads.
 ghost use Rattle.std.specs.Prelude.{◌≡◌, ◌≤◌, ◌+◌, length};
 ghost use Rattle.snap_model.specs.History.{Begins};
-ghost use Rattle.snap_rule.specs.Tree.{Stands, root, value_of};
+ghost use Rattle.snap_rule.specs.Tree.{Stands, root};
 ghost use Rattle.snap_stamp.specs.declared.layout.Field.{Field};
 ghost use Rattle.snap_steps.specs.Clones.{image, image_of, IsNotedSince, TellsWord, IsLink};
 ghost use Rattle.snap_steps.specs.Copies.{IsCloneAt, clone_of, with_stamp, CopiesRow};
@@ -12,7 +12,7 @@ ghost use Rattle.snap_steps.specs.Steps.Header.{noted};
 ghost use Rattle.snap_steps.specs.declared.view.WordNote.TheVariants.{Done};
 
 use crate::counter::Steps;
-use crate::fields::index_of;
+use crate::fields::{index_of, value_of};
 use crate::pass::Pass;
 use crate::rows::Rows;
 use crate::view::View;
@@ -35,7 +35,20 @@ impl Model for ViewSeat {
 
     ghost Value = { Cloned };
 
-    ghost view = { λ v. record { table = v.seat.table_id; rows = v.seat.me.0.rows; base = v.seat.me.0.base.history; parts = v.seat.me.0.base.parts; drawn = v.seat.me.0.base.drawn; balance = v.seat.me.0.base.balance; next = v.next; handed = v.seat.me.0.handed; epochs = v.seat.me.0.epochs; worn = v.seat.me.0.worn; outworn = v.seat.me.0.outworn } };
+    ghost view = { λ v.
+        record {
+          table = v.seat.table_id;
+          rows = v.seat.me.0.rows;
+          base = v.seat.me.0.base.history;
+          parts = v.seat.me.0.base.parts;
+          drawn = v.seat.me.0.base.drawn;
+          balance = v.seat.me.0.base.balance;
+          next = v.next;
+          handed = v.seat.me.0.noted.handed;
+          epochs = v.seat.me.0.noted.epochs;
+          worn = v.seat.me.0.noted.worn;
+          outworn = v.seat.me.0.outworn;
+        } };
 
     ghost invariant = { λ v. IsSeatOfClone v.seat.me v.top };
 }
@@ -174,19 +187,8 @@ fn copy_link(rows: &Rows, seat: &mut ViewSeat, row: RowNo, field: Field) -> RowN
     ensures low { result ≤ rows.now.rows }
     ensures seat { seat.new ≡ seat.old }
 {
-    let _all = rows.count();
     let word = copy_word(rows, seat, row, field);
-    RowNo::of(word as u32)
-}
-
-// The value that a value word stands for.
-fn value_in(word: u64) -> Option<u64>
-    ensures { result ≡ value_of word }
-{
-    match word {
-        0 => None,
-        more => Some(more - 1),
-    }
+    rows.row_of(word)
 }
 
 /// The row as it was when the clone was cut: its key, value, height and links. It counts one step.
@@ -212,7 +214,7 @@ pub fn load_row<L: Ledger>(
     let right = copy_link(rows, seat, row, Field::Right);
     RowCopy {
         key,
-        value: value_in(word),
+        value: value_of(word),
         height,
         left,
         right,

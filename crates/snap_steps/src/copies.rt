@@ -12,7 +12,6 @@ use crate::fields::index_of;
 use crate::pass::Pass;
 use crate::rows::Rows;
 use crate::view::View;
-use crate::writes::link_of;
 use atomic_table::Play;
 use snap_stamp::{Field, Key, RowNo, Side};
 use std::marker::{Brand, PhantomData};
@@ -97,7 +96,7 @@ fn copy_placed<J: Copying>(
     ensures { Becomes pass.old pass.new (copied pass.old.view J.key parent (link_field side) copy) }
 {
     let _told = (key, child);
-    let word = index_of(parent, link_of(side));
+    let word = index_of(parent, side.link());
     rows.table
         .shared
         .store::<LinkCopy<J>>(&mut pass.seat, word, copy.number() as u64);

@@ -32,8 +32,11 @@ pub fn try_draw(rows: &Rows, pass: &mut Pass, found: u32) -> Result<RowNo, u32>
     requires table { IsOf pass.old rows.now }
     requires found { found < rows.now.rows }
     requires whole { pass.old.view.doing ≡ Nothing }
-    ensures ok { IfOk result (λ r. (r ≡ found + 1) × Becomes pass.old pass.new (drew pass.old.view r)) }
-    ensures err { IfErr result (λ n. (n ≢ found) × (n ≤ rows.now.rows) × Becomes pass.old pass.new (noted pass.old.view (Next n))) }
+    ensures ok { IfOk result
+        (λ r. (r ≡ found + 1) × Becomes pass.old pass.new (drew pass.old.view r)) }
+    ensures err { IfErr result
+        (λ n. (n ≢ found) × (n ≤ rows.now.rows)
+        × Becomes pass.old pass.new (noted pass.old.view (Next n))) }
 {
     let expected = found as u64;
     let was = rows
@@ -52,7 +55,8 @@ pub fn try_draw(rows: &Rows, pass: &mut Pass, found: u32) -> Result<RowNo, u32>
 pub fn draw<R: Wait>(rows: &Rows, rt: &R, pass: &mut Pass) -> Result<RowNo, Full>
     requires table { IsOf pass.old rows.now }
     requires whole { pass.old.view.doing ≡ Nothing }
-    ensures { MatchResult result (λ r. HasDrawn rows.now.rows pass.old pass.new r) (λ f. (f.rows ≡ rows.now.rows) × FoundFull rows.now.rows pass.old pass.new) }
+    ensures { MatchResult result (λ r. HasDrawn rows.now.rows pass.old pass.new r)
+        (λ f. (f.rows ≡ rows.now.rows) × FoundFull rows.now.rows pass.old pass.new) }
 {
     let mut found = load_next(rows, pass);
     for _ in rt.forever() {

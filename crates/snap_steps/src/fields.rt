@@ -1,6 +1,7 @@
 //! The words of a row: loads of any row, and stores in a row that the pass drew and that isn't linked.
 ghost use Rattle.std.specs.Prelude.{◌≡◌, ◌≢◌, ℕ, ◌<◌, ◌≤◌};
 ghost use Rattle.snap_rule.specs.declared.change.Doing.TheVariants.{Nothing};
+ghost use Rattle.snap_rule.specs.Tree.{value_of};
 ghost use Rattle.snap_stamp.specs.Layout.{word_at};
 ghost use Rattle.snap_stamp.specs.declared.layout.Field.{Field};
 ghost use Rattle.snap_stamp.specs.declared.layout.Field.TheVariants.{Key, Lock, Stamp};
@@ -49,13 +50,23 @@ pub(crate) fn index_of(row: RowNo, field: Field) -> usize
     word_at(row, field) as usize
 }
 
+/// The value that a value word stands for.
+pub fn value_of(word: u64) -> Option<u64>
+    ensures { result ≡ value_of word }
+{
+    match word {
+        0 => None,
+        more => Some(more - 1),
+    }
+}
+
 /// Loads a word of a row. What the pass knew of it by its lock is what it finds, and a link that it finds in a row
 /// that it has reached leads to a row of the table.
 pub fn load_word(rows: &Rows, pass: &mut Pass, row: RowNo, field: Field) -> u64
     requires table { IsOf pass.old rows.now }
     requires row { row ≤ rows.now.rows }
     ensures pass { Becomes pass.old pass.new (read pass.old.view row field result) }
-    ensures known { (x : ℕ) → IsKnown pass.old.view.knows row field x → result ≡ x }
+    ensures known { (x : ℕ) → IsKnown pass.old.view.words.knows row field x → result ≡ x }
     ensures led { (c : ℕ) → Among c (led_to pass.old.view row field result) → c ≤ rows.now.rows }
 {
     let word = index_of(row, field);
@@ -67,7 +78,7 @@ pub fn load_key(rows: &Rows, pass: &mut Pass, row: RowNo) -> Key
     requires table { IsOf pass.old rows.now }
     requires row { row ≤ rows.now.rows }
     ensures pass { Becomes pass.old pass.new (read pass.old.view row Key result) }
-    ensures known { (x : ℕ) → IsKnown pass.old.view.knows row Key x → result ≡ x }
+    ensures known { (x : ℕ) → IsKnown pass.old.view.words.knows row Key x → result ≡ x }
 {
     load_word(rows, pass, row, Field::Key)
 }
@@ -76,7 +87,7 @@ fn store_placed<J: Placed>(rows: &Rows, pass: &mut Pass, row: RowNo, field: Fiel
     requires place { (row ≡ J.at_row) × (field ≡ J.at_field) }
     requires table { IsOf pass.old rows.now }
     requires row { row ≤ rows.now.rows }
-    requires own { Among row pass.old.view.own }
+    requires own { Among row pass.old.view.fresh.own }
     requires field { (field ≢ Lock) × (field ≢ Stamp) }
     ensures { Becomes pass.old pass.new (own_stored pass.old.view J.at_row J.at_field word) }
 {
@@ -90,7 +101,7 @@ fn store_placed<J: Placed>(rows: &Rows, pass: &mut Pass, row: RowNo, field: Fiel
 pub fn store_own(rows: &Rows, pass: &mut Pass, row: RowNo, field: Field, word: u64)
     requires table { IsOf pass.old rows.now }
     requires row { row ≤ rows.now.rows }
-    requires own { Among row pass.old.view.own }
+    requires own { Among row pass.old.view.fresh.own }
     requires field { (field ≢ Lock) × (field ≢ Stamp) }
     requires whole { pass.old.view.doing ≡ Nothing }
     ensures { Becomes pass.old pass.new (own_stored pass.old.view row field word) }
@@ -102,7 +113,7 @@ pub fn store_own(rows: &Rows, pass: &mut Pass, row: RowNo, field: Field, word: u
 pub fn store_key(rows: &Rows, pass: &mut Pass, row: RowNo, key: Key)
     requires table { IsOf pass.old rows.now }
     requires row { row ≤ rows.now.rows }
-    requires own { Among row pass.old.view.own }
+    requires own { Among row pass.old.view.fresh.own }
     requires whole { pass.old.view.doing ≡ Nothing }
     ensures { Becomes pass.old pass.new (own_stored pass.old.view row Key key) }
 {

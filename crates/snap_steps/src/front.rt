@@ -27,7 +27,8 @@ impl Model for Front {
 
     ghost Value = { Ended };
 
-    ghost view = { λ f. record { writes = f.writes; pairs = f.pairs; drawn = f.drawn; last = f.last.value } };
+    ghost view = { λ f.
+        record { writes = f.writes; pairs = f.pairs; drawn = f.drawn; last = f.last.value } };
 }
 
 /// Closes a table by a pass to which every other number was admitted.
@@ -45,7 +46,7 @@ pub fn close_rows(rows: Rows, pass: Pass) -> Front
         uses: _,
         added,
         taken,
-        to_do: _,
+        owed: _,
     } = pass;
     let closed = table.close_with(seat);
     let drawn = closed.word(0) as u32;

@@ -71,7 +71,8 @@ pub fn load_left(rows: &Rows, pass: &mut Pass) -> u64
 /// How many entries of the history are counted. The pass has then seen at least as many.
 pub fn load_done(rows: &Rows, pass: &mut Pass) -> u64
     requires { IsOf pass.old rows.now }
-    ensures { (seen : _) × Extends pass.old.view seen × (result ≤ length seen) × Becomes pass.old pass.new (noted (saw pass.old.view seen) (Done result)) }
+    ensures { (seen : _) × Extends pass.old.view seen × (result ≤ length seen)
+        × Becomes pass.old pass.new (noted (saw pass.old.view seen) (Done result)) }
 {
     rows.table.shared.load::<LoadDone>(&mut pass.seat, 3)
 }
@@ -81,7 +82,7 @@ pub fn load_done(rows: &Rows, pass: &mut Pass) -> u64
 pub fn load_epoch(rows: &Rows, pass: &mut Pass) -> u64
     requires { IsOf pass.old rows.now }
     ensures pass { Becomes pass.old pass.new (epoch_noted pass.old.view result) }
-    ensures same { (e : ℕ) → Among e pass.old.view.present → result ≡ e }
+    ensures same { (e : ℕ) → Among e pass.old.view.words.present → result ≡ e }
 {
     rows.table.shared.load::<LoadEpoch>(&mut pass.seat, 4)
 }

@@ -18,6 +18,7 @@ mod front;
 mod gate;
 mod header;
 mod locks;
+mod owed;
 mod pass;
 mod rotating;
 mod rows;
@@ -32,7 +33,7 @@ mod way;
 mod writes;
 
 pub use absences::confirm_absent_below;
-pub use aiming::{aim, pass_up};
+pub use aiming::{aim, pass_up, settle_last};
 pub use births::{load_birth, note_birth};
 pub use changes::mark_shrinking;
 pub use clones::{
@@ -41,7 +42,7 @@ pub use clones::{
 pub use copies::{link_copy, load_shared};
 pub use counter::Steps;
 pub use draws::{Full, draw, try_draw};
-pub use fields::{load_key, load_word, store_key, store_own};
+pub use fields::{load_key, load_word, store_key, store_own, value_of};
 pub use front::{Front, close_rows};
 pub use gate::{count_left, cut, open_gate, try_close, try_enter};
 pub use header::{load_done, load_epoch, load_gate, load_left, load_next};

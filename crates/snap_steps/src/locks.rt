@@ -29,11 +29,13 @@ impl Play<(), View> for FreeLock {
 pub fn try_lock(rows: &Rows, pass: &mut Pass, row: RowNo) -> bool
     requires table { IsOf pass.old rows.now }
     requires row { row ≤ rows.now.rows }
-    requires writing { (made : Bool) × (counted : Bool) × (pass.old.view.stage ≡ Writing made counted) }
+    requires writing { (made : Bool) × (counted : Bool)
+        × (pass.old.view.stage ≡ Writing made counted) }
     requires free { times row pass.old.view.holds ≡ 0 }
-    requires reached { (row ≡ 0) ⊎ (Among row pass.old.view.reached) }
+    requires reached { (row ≡ 0) ⊎ (Among row pass.old.view.trail.reached) }
     requires whole { pass.old.view.doing ≡ Nothing }
-    ensures { MatchBool result (Becomes pass.old pass.new (locked pass.old.view row)) ((word : _) × (word ≢ 0) × Becomes pass.old pass.new (missed pass.old.view row word)) }
+    ensures { MatchBool result (Becomes pass.old pass.new (locked pass.old.view row))
+        ((word : _) × (word ≢ 0) × Becomes pass.old pass.new (missed pass.old.view row word)) }
 {
     let word = index_of(row, Field::Lock);
     let new = pass.who as u64 + 1;

@@ -9,10 +9,10 @@ ghost use Rattle.snap_steps.specs.States.{link_field};
 ghost use Rattle.snap_steps.specs.Steps.Rotating.{lowered, lowered_stored, lifted, lifted_stored, cleared, cleared_stored};
 
 use crate::fields::index_of;
+use crate::owed::Tally;
 use crate::pass::Pass;
 use crate::rows::Rows;
 use crate::view::View;
-use crate::writes::link_of;
 use atomic_table::Play;
 use snap_stamp::{Field, RowNo, Side};
 
@@ -48,11 +48,12 @@ pub fn link_lowered(
     requires table { IsOf pass.old rows.now }
     requires row { row ≤ rows.now.rows }
     requires change { pass.old.view.doing ≡ Shrunk parent parent_side row side raised }
-    requires middle { IsKnown pass.old.view.knows raised (link_field (other side)) middle }
-    ensures { Becomes pass.old pass.new (lowered pass.old.view parent parent_side row side raised middle) }
+    requires middle { IsKnown pass.old.view.words.knows raised (link_field (other side)) middle }
+    ensures { Becomes pass.old pass.new
+        (lowered pass.old.view parent parent_side row side raised middle) }
 {
     let _told = (parent, parent_side, raised);
-    let word = index_of(row, link_of(side));
+    let word = index_of(row, side.link());
     rows.table
         .shared
         .store::<LeadMiddle>(&mut pass.seat, word, middle.number() as u64);
@@ -75,7 +76,7 @@ pub fn link_raised(
 {
     let _told = (parent, parent_side);
     let across = side.other();
-    let word = index_of(raised, link_of(across));
+    let word = index_of(raised, across.link());
     rows.table
         .shared
         .store::<LeadAcross>(&mut pass.seat, word, row.number() as u64);
@@ -86,7 +87,7 @@ pub fn clear_shrinking(rows: &Rows, pass: &mut Pass, row: RowNo, stamp: u64)
     requires table { IsOf pass.old rows.now }
     requires row { row ≤ rows.now.rows }
     requires change { pass.old.view.doing ≡ Turned row }
-    requires stamp { IsKnown pass.old.view.knows row Stamp stamp }
+    requires stamp { IsKnown pass.old.view.words.knows row Stamp stamp }
     requires count { stamp + 2 < 2 ^ 64 }
     ensures { Becomes pass.old pass.new (cleared pass.old.view row (stamp + 2)) }
 {
@@ -94,4 +95,9 @@ pub fn clear_shrinking(rows: &Rows, pass: &mut Pass, row: RowNo, stamp: u64)
     rows.table
         .shared
         .store::<ClearMark>(&mut pass.seat, word, stamp + 2);
+    let listed = pass.owed.listed.with_row(row);
+    pass.owed = Tally {
+        to_do: pass.owed.to_do,
+        listed,
+    };
 }

@@ -61,7 +61,8 @@ pub fn note(rows: &Rows, pass: &mut Pass) -> Note
 pub fn learn(rows: &Rows, pass: &mut Pass, note: Note)
     requires pass { IsOf pass.old rows.now }
     requires note { note.table ≡ pass.old.table }
-    ensures { (seen : _) × Extends pass.old.view seen × Begins note.view.seen seen × Becomes pass.old pass.new (heard pass.old.view note.view seen) }
+    ensures { (seen : _) × Extends pass.old.view seen × Begins note.view.seen seen
+        × Becomes pass.old pass.new (heard pass.old.view note.view seen) }
 {
     let Note { seat } = note;
     rows.table
@@ -100,7 +101,7 @@ pub fn finish(_rows: &Rows, pass: Pass) -> Receipt
         uses: _,
         added,
         taken,
-        to_do: _,
+        owed: _,
     } = pass;
     Receipt { seat, added, taken }
 }
@@ -110,7 +111,9 @@ pub fn finish(_rows: &Rows, pass: Pass) -> Receipt
 pub fn admit(rows: &Rows, pass: &mut Pass, receipt: Receipt)
     requires pass { IsOf pass.old rows.now }
     requires receipt { receipt.table ≡ pass.old.table }
-    ensures { (seen : _) × Extends pass.old.view seen × Begins receipt.view.seen seen × Becomes pass.old pass.new (with_admitted (heard pass.old.view receipt.view seen) receipt.view) }
+    ensures { (seen : _) × Extends pass.old.view seen × Begins receipt.view.seen seen
+        × Becomes pass.old pass.new
+        (with_admitted (heard pass.old.view receipt.view seen) receipt.view) }
 {
     let Receipt { seat, added, taken } = receipt;
     rows.table

@@ -13,6 +13,7 @@ ghost use Rattle.snap_steps.specs.Steps.Settling.{AimsByHeight, IsRightHeight, h
 ghost use Rattle.snap_steps.specs.Steps.Unlinking.{IsPair};
 
 use crate::fields::index_of;
+use crate::owed::Tally;
 use crate::pass::Pass;
 use crate::rows::Rows;
 use crate::view::View;
@@ -57,8 +58,8 @@ fn height_told<J: Loading>(
     requires table { IsOf pass.old rows.now }
     requires child { (J.child ≢ 0) × (child ≤ rows.now.rows) }
     requires held { Among J.above pass.old.view.holds }
-    requires live { (Among J.above pass.old.view.reached) × IsBorn pass.old.view J.above }
-    requires link { IsKnown pass.old.view.knows J.above (link_field J.side) J.child }
+    requires live { (Among J.above pass.old.view.trail.reached) × IsBorn pass.old.view J.above }
+    requires link { IsKnown pass.old.view.words.knows J.above (link_field J.side) J.child }
     requires whole { pass.old.view.doing ≡ Nothing }
     ensures { Becomes pass.old pass.new (height_read pass.old.view J.above J.side J.child result) }
 {
@@ -74,8 +75,8 @@ pub fn load_height(rows: &Rows, pass: &mut Pass, row: RowNo, side: Side, child: 
     requires table { IsOf pass.old rows.now }
     requires child { (child ≢ 0) × (child ≤ rows.now.rows) }
     requires held { Among row pass.old.view.holds }
-    requires live { (Among row pass.old.view.reached) × IsBorn pass.old.view row }
-    requires link { IsKnown pass.old.view.knows row (link_field side) child }
+    requires live { (Among row pass.old.view.trail.reached) × IsBorn pass.old.view row }
+    requires link { IsKnown pass.old.view.words.knows row (link_field side) child }
     requires whole { pass.old.view.doing ≡ Nothing }
     ensures { Becomes pass.old pass.new (height_read pass.old.view row side child result) }
 {
@@ -120,23 +121,26 @@ fn height_placed<J: Raising>(
     key: Key,
     height: u64,
 )
-    requires told { (parent ≡ J.upper) × (side ≡ J.upper_side) × (row ≡ J.lower) × (key ≡ J.lower_key) }
+    requires told { (parent ≡ J.upper) × (side ≡ J.upper_side) × (row ≡ J.lower)
+        × (key ≡ J.lower_key) }
     requires table { IsOf pass.old rows.now }
     requires row { row ≤ rows.now.rows }
     requires pair { IsPair pass.old.view J.upper J.upper_side J.lower }
-    requires key { IsKnown pass.old.view.knows J.lower Key J.lower_key }
+    requires key { IsKnown pass.old.view.words.knows J.lower Key J.lower_key }
     requires height { IsRightHeight pass.old.view J.lower height }
     requires aims { AimsByHeight pass.old.view J.upper J.lower }
     requires whole { pass.old.view.doing ≡ Nothing }
-    ensures { Becomes pass.old pass.new (heightened pass.old.view J.upper J.lower J.lower_key height) }
+    ensures { Becomes pass.old pass.new
+        (heightened pass.old.view J.upper J.lower J.lower_key height) }
 {
-    let _told = (parent, side);
+    let _told = side;
     let word = index_of(row, Field::Height);
     rows.table
         .shared
         .store::<Raise<J>>(&mut pass.seat, word, height);
-    let to_do = to_do_or(pass.to_do, key);
-    pass.to_do = to_do;
+    let to_do = to_do_or(pass.owed.to_do, key);
+    let listed = pass.owed.listed.with_row(parent);
+    pass.owed = Tally { to_do, listed };
 }
 
 // The to-do key, or else the row's.
@@ -163,7 +167,7 @@ pub fn store_height(
     requires table { IsOf pass.old rows.now }
     requires row { row ≤ rows.now.rows }
     requires pair { IsPair pass.old.view parent side row }
-    requires key { IsKnown pass.old.view.knows row Key key }
+    requires key { IsKnown pass.old.view.words.knows row Key key }
     requires height { IsRightHeight pass.old.view row height }
     requires aims { AimsByHeight pass.old.view parent row }
     requires whole { pass.old.view.doing ≡ Nothing }

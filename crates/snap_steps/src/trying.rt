@@ -59,7 +59,8 @@ pub fn begin_try(rows: &Rows, pass: &mut Pass) -> u64
 pub fn try_next_word(rows: &Rows, pass: &mut Pass, row: RowNo, field: Field) -> u64
     requires table { IsOf pass.old rows.now }
     requires row { row ≤ rows.now.rows }
-    requires way { (key : ℕ) × (point : Point) × (ended : ℕ) × (low : ℕ) × (high : ℕ) × IsTrying pass.old.view key point ended low high × IsNext point row field }
+    requires way { (key : ℕ) × (point : Point) × (ended : ℕ) × (low : ℕ) × (high : ℕ)
+        × IsTrying pass.old.view key point ended low high × IsNext point row field }
     ensures pass { (below : ℕ) × Becomes pass.old pass.new (tried_on pass.old.view result below) }
     ensures bound { HasBound pass.old.view result }
 {
@@ -71,8 +72,11 @@ pub fn try_next_word(rows: &Rows, pass: &mut Pass, row: RowNo, field: Field) -> 
 pub fn try_last_word(rows: &Rows, pass: &mut Pass, row: RowNo, field: Field) -> u64
     requires table { IsOf pass.old rows.now }
     requires row { row ≤ rows.now.rows }
-    requires way { (key : ℕ) × (point : Point) × (ended : ℕ) × (low : ℕ) × (high : ℕ) × IsTrying pass.old.view key point ended low high × IsLast point row field }
-    ensures { (seen : _) × Extends pass.old.view seen × Becomes pass.old pass.new (tried_last pass.old.view seen result) × HasAnswer pass.old.view.reads result seen }
+    requires way { (key : ℕ) × (point : Point) × (ended : ℕ) × (low : ℕ) × (high : ℕ)
+        × IsTrying pass.old.view key point ended low high × IsLast point row field }
+    ensures { (seen : _) × Extends pass.old.view seen
+        × Becomes pass.old pass.new (tried_last pass.old.view seen result)
+        × HasAnswer pass.old.view.way.reads result seen }
 {
     let word = index_of(row, field);
     rows.table.shared.load::<TryLast>(&mut pass.seat, word)

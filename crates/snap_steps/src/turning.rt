@@ -8,10 +8,10 @@ ghost use Rattle.snap_steps.specs.Seen.{IsOf, Becomes};
 ghost use Rattle.snap_steps.specs.Steps.Rotating.{HasStamps, turned, turn_stored};
 
 use crate::fields::index_of;
+use crate::owed::Tally;
 use crate::pass::Pass;
 use crate::rows::Rows;
 use crate::view::View;
-use crate::writes::link_of;
 use atomic_table::Play;
 use snap_stamp::{Key, RowNo, Side};
 
@@ -36,15 +36,23 @@ pub fn link_parent(
     requires table { IsOf pass.old rows.now }
     requires parent { parent ≤ rows.now.rows }
     requires change { pass.old.view.doing ≡ Lifted parent parent_side row side raised }
-    requires key { IsKnown pass.old.view.knows row Key key }
+    requires key { IsKnown pass.old.view.words.knows row Key key }
     requires stamps { HasStamps pass.old.view parent row raised }
-    ensures pass { Becomes pass.old pass.new (turned pass.old.view parent parent_side row raised key) }
-    ensures listed { (x : ℕ) → parent ≢ 0 → IsKnown pass.old.view.knows parent Stamp x → IsListed parent x pass.new.view.debt.list }
+    ensures pass { Becomes pass.old pass.new
+        (turned pass.old.view parent parent_side row raised key) }
+    ensures listed { (x : ℕ) → parent ≢ 0 → IsKnown pass.old.view.words.knows parent Stamp x
+        → IsListed parent x pass.new.view.debt.list }
 {
-    let _told = (row, side);
-    let word = index_of(parent, link_of(parent_side));
+    let _told = side;
+    let word = index_of(parent, parent_side.link());
     rows.table
         .shared
         .store::<Turn>(&mut pass.seat, word, raised.number() as u64);
-    pass.to_do = Some(key);
+    let above = pass.owed.listed.with_row(parent);
+    let both = above.with_row(raised);
+    let listed = both.with_row(row);
+    pass.owed = Tally {
+        to_do: Some(key),
+        listed,
+    };
 }

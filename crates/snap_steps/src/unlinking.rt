@@ -6,14 +6,13 @@ ghost use Rattle.snap_stamp.specs.declared.side.Side.{Side};
 ghost use Rattle.snap_stamp.specs.declared.side.Side.TheVariants.{Right};
 ghost use Rattle.snap_steps.specs.Facts.{IsKnown};
 ghost use Rattle.snap_steps.specs.Seen.{IsOf, Becomes};
-ghost use Rattle.snap_steps.specs.Steps.Debts.{key_at};
 ghost use Rattle.snap_steps.specs.Steps.Unlinking.{AimsNear, HasKey, IsPair, IsRouting, unlinked, unlinked_stored, spliced, splice_stored};
 
 use crate::fields::index_of;
+use crate::owed::Tally;
 use crate::pass::Pass;
 use crate::rows::Rows;
 use crate::view::View;
-use crate::writes::link_of;
 use atomic_table::Play;
 use snap_stamp::{Field, Key, RowNo, Side};
 use std::marker::{Brand, PhantomData};
@@ -67,32 +66,29 @@ fn unlink_placed<J: Leaving>(
     stamp: u64,
     parent_key: Key,
 )
-    requires told { (parent ≡ J.upper) × (side ≡ J.upper_side) × (row ≡ J.gone) × (only ≡ J.only) × (parent_key ≡ J.upper_key) }
+    requires told { (parent ≡ J.upper) × (side ≡ J.upper_side) × (row ≡ J.gone) × (only ≡ J.only)
+        × (parent_key ≡ J.upper_key) }
     requires table { IsOf pass.old rows.now }
     requires row { row ≤ rows.now.rows }
     requires pair { IsPair pass.old.view J.upper J.upper_side J.gone }
     requires routing { IsRouting pass.old.view J.gone J.only }
-    requires stamp { IsKnown pass.old.view.knows J.gone Stamp stamp }
+    requires stamp { IsKnown pass.old.view.words.knows J.gone Stamp stamp }
     requires count { (stamp % 4 ≡ 0) × (stamp + 1 < 2 ^ 64) }
     requires key { HasKey pass.old.view J.upper J.upper_key }
     requires aims { AimsNear pass.old.view J.upper J.gone }
     requires whole { pass.old.view.doing ≡ Nothing }
-    ensures { Becomes pass.old pass.new (unlinked pass.old.view J.upper J.upper_side J.gone J.only J.upper_key (stamp + 1)) }
+    ensures { Becomes pass.old pass.new
+        (unlinked pass.old.view J.upper J.upper_side J.gone J.only J.upper_key (stamp + 1)) }
 {
     let _told = (side, only);
     let word = index_of(row, Field::Stamp);
     rows.table
         .shared
         .store::<Unlink<J>>(&mut pass.seat, word, stamp + 1);
-    let to_do = to_do_at(parent, parent_key);
-    pass.to_do = to_do;
-}
-
-// The to-do key where it comes to be that of a row: none at row 0.
-pub(crate) fn to_do_at(row: RowNo, key: Key) -> Option<Key>
-    ensures { result ≡ key_at row key }
-{
-    if row.is_none() { None } else { Some(key) }
+    let listed = pass.owed.listed.with_row(parent);
+    let fewer = listed.without(row);
+    let owed = Tally::at(parent, parent_key, fewer);
+    pass.owed = owed;
 }
 
 /// Sets the unlinked mark of a held row without a value and with one child at most, by which it leaves the tree.
@@ -112,12 +108,13 @@ pub fn mark_unlinked(
     requires row { row ≤ rows.now.rows }
     requires pair { IsPair pass.old.view parent side row }
     requires routing { IsRouting pass.old.view row only }
-    requires stamp { IsKnown pass.old.view.knows row Stamp stamp }
+    requires stamp { IsKnown pass.old.view.words.knows row Stamp stamp }
     requires count { (stamp % 4 ≡ 0) × (stamp + 1 < 2 ^ 64) }
     requires key { HasKey pass.old.view parent parent_key }
     requires aims { AimsNear pass.old.view parent row }
     requires whole { pass.old.view.doing ≡ Nothing }
-    ensures { Becomes pass.old pass.new (unlinked pass.old.view parent side row only parent_key (stamp + 1)) }
+    ensures { Becomes pass.old pass.new
+        (unlinked pass.old.view parent side row only parent_key (stamp + 1)) }
 {
     unlink_placed::<Brand>(rows, pass, parent, side, row, only, stamp, parent_key);
 }
@@ -130,7 +127,7 @@ pub fn splice(rows: &Rows, pass: &mut Pass, parent: RowNo, side: Side, row: RowN
     ensures { Becomes pass.old pass.new (spliced pass.old.view parent side only) }
 {
     let _row = row;
-    let word = index_of(parent, link_of(side));
+    let word = index_of(parent, side.link());
     rows.table
         .shared
         .store::<LeadPast>(&mut pass.seat, word, only.number() as u64);

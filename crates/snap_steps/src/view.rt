@@ -93,6 +93,55 @@ pub struct Base {
     pub balance: Balance,
 }
 
+/// What loads and notes taught a seat of the header's words and of stamps at their end.
+pub struct Noted {
+    /// The words that it noted, in their order.
+    pub notes: LinkedList<WordNote>,
+    /// The greatest `Next` and the greatest `Epoch` that it, or a seat that was joined to it, noted.
+    pub handed: u32,
+    pub epochs: u64,
+    /// Whether one of these noted a stamp at its greatest count.
+    pub worn: bool,
+}
+
+/// Where a seat is on the way to a key.
+pub struct Route {
+    pub reads: Reading,
+    /// The row to which all checks led it there, as long as it hasn't noted its birth.
+    pub confirmed: LinkedList<u32>,
+    /// The row from which it last went on there, with its stamp and the side: the place where the way ended.
+    pub place: Reading,
+}
+
+/// What a seat has behind it.
+pub struct Trail {
+    /// Rows that were linked, to which it came.
+    pub reached: LinkedList<u32>,
+    /// How many steps it made that may leave nothing else behind.
+    pub steps: u64,
+}
+
+/// What a seat knows of words of rows, and of the epoch.
+pub struct Words {
+    /// Those of rows whose locks it holds.
+    pub knows: LinkedList<Fact>,
+    /// The words for which it was refused a row: of a lock that was taken, and of a stamp at its greatest count.
+    pub refused: LinkedList<Fact>,
+    /// Words that change no more: births of rows that were linked, and words of rows of an earlier epoch.
+    pub lasting: LinkedList<Fact>,
+    /// What it loaded as the epoch in this write.
+    pub present: LinkedList<u64>,
+}
+
+/// The rows that a seat drew and that aren't linked, and its copies.
+pub struct Fresh {
+    pub own: LinkedList<u32>,
+    /// What it stored in them.
+    pub wrote: LinkedList<Fact>,
+    /// The key for which it made copies of rows in this write.
+    pub copies: LinkedList<u64>,
+}
+
 /// What a seat knows.
 pub struct View {
     /// The size of the table, and how many passes it has.
@@ -104,13 +153,7 @@ pub struct View {
     /// What it has seen of the history, and its own entries in it.
     pub seen: LinkedList<Entry>,
     pub mine: LinkedList<Entry>,
-    /// The words that it noted, in their order.
-    pub notes: LinkedList<WordNote>,
-    /// The greatest `Next` and the greatest `Epoch` that it, or a seat that was joined to it, noted.
-    pub handed: u32,
-    pub epochs: u64,
-    /// Whether one of these noted a stamp at its greatest count.
-    pub worn: bool,
+    pub noted: Noted,
     /// The rows that it drew.
     pub drawn: LinkedList<u32>,
     /// The lengths of the history at which it made clones.
@@ -122,24 +165,12 @@ pub struct View {
     pub base: Base,
     /// The rows whose stamps the seat of a clone found at their greatest count.
     pub outworn: LinkedList<u32>,
-    /// The rows whose locks it holds, and what it knows of their words.
+    /// The rows whose locks it holds.
     pub holds: LinkedList<u32>,
-    pub knows: LinkedList<Fact>,
-    /// The words for which it was refused a row: of a lock that was taken, and of a stamp at its greatest count.
-    pub refused: LinkedList<Fact>,
-    /// Words that change no more: births of rows that were linked, and words of rows of an earlier epoch.
-    pub lasting: LinkedList<Fact>,
-    /// Rows that were linked, to which it came.
-    pub reached: LinkedList<u32>,
-    /// Rows that it drew and that aren't linked, and what it stored in them.
-    pub own: LinkedList<u32>,
-    pub wrote: LinkedList<Fact>,
-    /// Where it is on the way to a key.
-    pub reads: Reading,
-    /// The row to which all checks led it there, as long as it hasn't noted its birth.
-    pub confirmed: LinkedList<u32>,
-    /// The row from which it last went on there, with its stamp and the side: the place where the way ended.
-    pub place: Reading,
+    pub words: Words,
+    pub trail: Trail,
+    pub fresh: Fresh,
+    pub way: Route,
     /// The call that never waits, where it is in one.
     pub tries: Trying,
     /// The change that it is in.
@@ -148,12 +179,6 @@ pub struct View {
     pub heights: LinkedList<ChildHeight>,
     /// What it owes to the balance of the tree.
     pub debt: Debt,
-    /// What it loaded as the epoch in this write.
-    pub present: LinkedList<u64>,
-    /// The key for which it made copies of rows in this write.
-    pub copies: LinkedList<u64>,
-    /// How many steps it made that may leave nothing else behind.
-    pub steps: u64,
     /// The two histories that its last join put together.
     pub joined: LinkedList<LinkedList<Entry>>,
 }

@@ -48,7 +48,8 @@ impl Play<(), View> for ReadAnswer {
 fn set_out_keyed<J: Saying>(rows: &Rows, pass: &mut Pass, key: Key) -> u64
     requires key { key ≡ J.key }
     requires table { IsOf pass.old rows.now }
-    ensures { (seen : _) × Extends pass.old.view seen × (result ≤ length seen) × Becomes pass.old pass.new (set_out_for (noted pass.old.view (Done result)) seen J.key) }
+    ensures { (seen : _) × Extends pass.old.view seen × (result ≤ length seen)
+        × Becomes pass.old pass.new (set_out_for (noted pass.old.view (Done result)) seen J.key) }
 {
     let _key = key;
     rows.table.shared.load::<SetOut<J>>(&mut pass.seat, 3)
@@ -57,7 +58,8 @@ fn set_out_keyed<J: Saying>(rows: &Rows, pass: &mut Pass, key: Key) -> u64
 /// Loads `done`, and stands at row 0 on the way of the key.
 pub fn set_out(rows: &Rows, pass: &mut Pass, key: Key) -> u64
     requires { IsOf pass.old rows.now }
-    ensures { (seen : _) × Extends pass.old.view seen × (result ≤ length seen) × Becomes pass.old pass.new (set_out_for (noted pass.old.view (Done result)) seen key) }
+    ensures { (seen : _) × Extends pass.old.view seen × (result ≤ length seen)
+        × Becomes pass.old pass.new (set_out_for (noted pass.old.view (Done result)) seen key) }
 {
     set_out_keyed::<Brand>(rows, pass, key)
 }
@@ -86,7 +88,8 @@ pub fn set_out_again(rows: &Rows, pass: &mut Pass, key: Key)
 pub fn load_next_word(rows: &Rows, pass: &mut Pass, row: RowNo, field: Field) -> u64
     requires table { IsOf pass.old rows.now }
     requires row { row ≤ rows.now.rows }
-    requires way { (key : ℕ) × (point : Point) × (pass.old.view.reads ≡ On key point) × IsNext point row field }
+    requires way { (key : ℕ) × (point : Point) × (pass.old.view.way.reads ≡ On key point)
+        × IsNext point row field }
     ensures pass { Becomes pass.old pass.new (read_on pass.old.view result) }
     ensures bound { HasBound pass.old.view result }
 {
@@ -98,8 +101,11 @@ pub fn load_next_word(rows: &Rows, pass: &mut Pass, row: RowNo, field: Field) ->
 pub fn load_last_word(rows: &Rows, pass: &mut Pass, row: RowNo, field: Field) -> u64
     requires table { IsOf pass.old rows.now }
     requires row { row ≤ rows.now.rows }
-    requires way { (key : ℕ) × (point : Point) × (pass.old.view.reads ≡ On key point) × IsLast point row field }
-    ensures { (seen : _) × Extends pass.old.view seen × Becomes pass.old pass.new (settled_at pass.old.view seen result) × HasAnswer pass.old.view.reads result seen }
+    requires way { (key : ℕ) × (point : Point) × (pass.old.view.way.reads ≡ On key point)
+        × IsLast point row field }
+    ensures { (seen : _) × Extends pass.old.view seen
+        × Becomes pass.old pass.new (settled_at pass.old.view seen result)
+        × HasAnswer pass.old.view.way.reads result seen }
 {
     let word = index_of(row, field);
     rows.table.shared.load::<ReadAnswer>(&mut pass.seat, word)

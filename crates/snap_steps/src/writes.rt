@@ -9,14 +9,16 @@ ghost use Rattle.snap_steps.specs.Counting.{Among};
 ghost use Rattle.snap_steps.specs.Facts.{IsKnown, IsBorn};
 ghost use Rattle.snap_steps.specs.Histories.{Enters};
 ghost use Rattle.snap_steps.specs.Rule.Epochs.{AllAre};
+ghost use Rattle.snap_steps.specs.Owed.{after_value};
 ghost use Rattle.snap_steps.specs.Pairs.{added_by, taken_by};
 ghost use Rattle.snap_steps.specs.Seen.{IsOf, Becomes};
 ghost use Rattle.snap_steps.specs.States.{link_field};
 ghost use Rattle.snap_steps.specs.Steps.Debts.{OwesNothing};
-ghost use Rattle.snap_steps.specs.Steps.Writes.{call_of, entry, stored, made_entry, hung, counted_one, IsLeaf, IsPlace, after_value, value_stored, absent_confirmed, leaf_hung, done_counted};
+ghost use Rattle.snap_steps.specs.Steps.Writes.{call_of, entry, stored, made_entry, hung, counted_one, IsLeaf, IsPlace, value_stored, absent_confirmed, leaf_hung, done_counted};
 ghost use Rattle.snap_steps.specs.declared.view.Stage.TheVariants.{Writing};
 
 use crate::fields::index_of;
+use crate::owed::Tally;
 use crate::pass::Pass;
 use crate::rows::Rows;
 use crate::view::View;
@@ -89,14 +91,18 @@ pub fn store_value(rows: &Rows, pass: &mut Pass, row: RowNo, key: Key, new: u64)
     requires row { row ≤ rows.now.rows }
     requires writing { pass.old.view.stage ≡ Writing false false }
     requires held { Among row pass.old.view.holds }
-    requires reached { Among row pass.old.view.reached }
-    requires key { IsKnown pass.old.view.knows row Key key }
-    requires copies { AllAre key pass.old.view.copies }
+    requires reached { Among row pass.old.view.trail.reached }
+    requires key { IsKnown pass.old.view.words.knows row Key key }
+    requires copies { AllAre key pass.old.view.fresh.copies }
     requires born { IsBorn pass.old.view row }
     requires whole { pass.old.view.doing ≡ Nothing }
     requires owes { OwesNothing pass.old.view }
-    ensures known { (x : ℕ) → IsKnown pass.old.view.knows row Value x → result ≡ x }
-    ensures entry { (log : _) × Enters pass.old.view log (entry pass.old.view.who (call_of key new) (value_of result)) × Becomes pass.old pass.new (stored pass.old.view log (entry pass.old.view.who (call_of key new) (value_of result)) row new) }
+    ensures known { (x : ℕ) → IsKnown pass.old.view.words.knows row Value x → result ≡ x }
+    ensures entry { (log : _)
+        × Enters pass.old.view log (entry pass.old.view.who (call_of key new) (value_of result))
+        × Becomes pass.old pass.new
+        (stored pass.old.view log
+        (entry pass.old.view.who (call_of key new) (value_of result)) row new) }
 {
     let word = index_of(row, Field::Value);
     let was = rows
@@ -105,16 +111,16 @@ pub fn store_value(rows: &Rows, pass: &mut Pass, row: RowNo, key: Key, new: u64)
         .swap::<StoreValue>(&mut pass.seat, word, new);
     pass.added = pass.added.wrapping_add(pairs_added(key, was, new));
     pass.taken = pass.taken.wrapping_add(pairs_taken(key, was, new));
-    let to_do = to_do_after(pass.to_do, key, new);
-    pass.to_do = to_do;
+    let owed = owed_after(pass.owed, key, row, new);
+    pass.owed = owed;
     was
 }
 
-// The to-do key once a value word was stored: the row's, where its value is gone.
-fn to_do_after(to_do: Option<Key>, key: Key, new: u64) -> Option<Key>
-    ensures { result ≡ after_value to_do key new }
+// What is owed once a value word was stored: the row, where its value is gone.
+fn owed_after(owed: Tally, key: Key, row: RowNo, new: u64) -> Tally
+    ensures { result ≡ after_value owed key row new }
 {
-    if new == 0 { Some(key) } else { to_do }
+    if new == 0 { Tally::one(key, row) } else { owed }
 }
 
 // How many pairs a value word adds to the map in the place of another.
@@ -139,11 +145,14 @@ fn confirm_keyed<J: Saying>(rows: &Rows, pass: &mut Pass, row: RowNo, key: Key)
     requires row { row ≤ rows.now.rows }
     requires writing { pass.old.view.stage ≡ Writing false false }
     requires held { Among row pass.old.view.holds }
-    requires reached { Among row pass.old.view.reached }
-    requires known { IsKnown pass.old.view.knows row Key key × IsKnown pass.old.view.knows row Value 0 }
-    requires copies { AllAre key pass.old.view.copies }
+    requires reached { Among row pass.old.view.trail.reached }
+    requires known { IsKnown pass.old.view.words.knows row Key key
+        × IsKnown pass.old.view.words.knows row Value 0 }
+    requires copies { AllAre key pass.old.view.fresh.copies }
     requires born { IsBorn pass.old.view row }
-    ensures { (log : _) × Enters pass.old.view log (entry pass.old.view.who (Remove J.key) None) × Becomes pass.old pass.new (made_entry pass.old.view log (entry pass.old.view.who (Remove J.key) None)) }
+    ensures { (log : _) × Enters pass.old.view log (entry pass.old.view.who (Remove J.key) None)
+        × Becomes pass.old pass.new
+        (made_entry pass.old.view log (entry pass.old.view.who (Remove J.key) None)) }
 {
     let _key = key;
     let word = index_of(row, Field::Value);
@@ -159,23 +168,17 @@ pub fn confirm_absent(rows: &Rows, pass: &mut Pass, row: RowNo, key: Key)
     requires row { row ≤ rows.now.rows }
     requires writing { pass.old.view.stage ≡ Writing false false }
     requires held { Among row pass.old.view.holds }
-    requires reached { Among row pass.old.view.reached }
-    requires known { IsKnown pass.old.view.knows row Key key × IsKnown pass.old.view.knows row Value 0 }
-    requires copies { AllAre key pass.old.view.copies }
+    requires reached { Among row pass.old.view.trail.reached }
+    requires known { IsKnown pass.old.view.words.knows row Key key
+        × IsKnown pass.old.view.words.knows row Value 0 }
+    requires copies { AllAre key pass.old.view.fresh.copies }
     requires born { IsBorn pass.old.view row }
     requires whole { pass.old.view.doing ≡ Nothing }
-    ensures { (log : _) × Enters pass.old.view log (entry pass.old.view.who (Remove key) None) × Becomes pass.old pass.new (made_entry pass.old.view log (entry pass.old.view.who (Remove key) None)) }
+    ensures { (log : _) × Enters pass.old.view log (entry pass.old.view.who (Remove key) None)
+        × Becomes pass.old pass.new
+        (made_entry pass.old.view log (entry pass.old.view.who (Remove key) None)) }
 {
     confirm_keyed::<Brand>(rows, pass, row, key);
-}
-
-pub(crate) fn link_of(side: Side) -> Field
-    ensures { result ≡ link_field side }
-{
-    match side {
-        Side::Left => Field::Left,
-        Side::Right => Field::Right,
-    }
 }
 
 fn link_placed<J: Leaf>(
@@ -193,10 +196,14 @@ fn link_placed<J: Leaf>(
     requires writing { pass.old.view.stage ≡ Writing false false }
     requires made { IsLeaf pass.old.view row key value }
     requires place { IsPlace pass.old.view key parent field }
-    requires copies { AllAre key pass.old.view.copies }
+    requires copies { AllAre key pass.old.view.fresh.copies }
     requires whole { pass.old.view.doing ≡ Nothing }
     requires owes { OwesNothing pass.old.view }
-    ensures { (log : _) × Enters pass.old.view log (entry pass.old.view.who (Put J.key J.value) None) × Becomes pass.old pass.new (hung pass.old.view log (entry pass.old.view.who (Put J.key J.value) None) J.below J.by_field row) }
+    ensures { (log : _)
+        × Enters pass.old.view log (entry pass.old.view.who (Put J.key J.value) None)
+        × Becomes pass.old pass.new
+        (hung pass.old.view log
+        (entry pass.old.view.who (Put J.key J.value) None) J.below J.by_field row) }
 {
     let _told = (key, value);
     let word = index_of(parent, field);
@@ -204,7 +211,8 @@ fn link_placed<J: Leaf>(
         .shared
         .store::<LinkLeaf<J>>(&mut pass.seat, word, row.number() as u64);
     pass.added = pass.added.wrapping_add(1);
-    pass.to_do = Some(key);
+    let owed = Tally::one(key, parent);
+    pass.owed = owed;
 }
 
 /// Links a row of the pass, which is a leaf with the key and the value, below the held row at which its way ends.
@@ -223,12 +231,15 @@ pub fn link_leaf(
     requires writing { pass.old.view.stage ≡ Writing false false }
     requires made { IsLeaf pass.old.view row key value }
     requires place { IsPlace pass.old.view key parent (link_field side) }
-    requires copies { AllAre key pass.old.view.copies }
+    requires copies { AllAre key pass.old.view.fresh.copies }
     requires whole { pass.old.view.doing ≡ Nothing }
     requires owes { OwesNothing pass.old.view }
-    ensures { (log : _) × Enters pass.old.view log (entry pass.old.view.who (Put key value) None) × Becomes pass.old pass.new (hung pass.old.view log (entry pass.old.view.who (Put key value) None) parent (link_field side) row) }
+    ensures { (log : _) × Enters pass.old.view log (entry pass.old.view.who (Put key value) None)
+        × Becomes pass.old pass.new
+        (hung pass.old.view log (entry pass.old.view.who (Put key value) None) parent
+        (link_field side) row) }
 {
-    let field = link_of(side);
+    let field = side.link();
     link_placed::<Brand>(rows, pass, parent, field, row, key, value);
 }
 

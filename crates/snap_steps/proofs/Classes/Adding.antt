@@ -131,12 +131,12 @@ silent_more about words views k rows passes seen handed epochs noted_worn base o
 -- a note is such a seat
 pub noted_more : (about : About) (words : List ℕ) (views : List View) (k : Kept about words views) (id : ℕ) (v : View) → get_elem? views id ≡ some v → is_live v.role ≡ 1 → Kept about words (views ++ note_of v ∷ [])
 noted_more about words views k id v at live = let h = k.notes id v at in
-    silent_more about words views k v.rows v.passes v.seen v.handed v.epochs v.worn no_base [] (k.about_known id v at live) (k.history.seen id v at).0 h.handed_is h.epochs_are (k.worn id v at) (no_base_is (state_of k.m k.g)) (omega arith)
+    silent_more about words views k v.rows v.passes v.seen v.noted.handed v.noted.epochs v.noted.worn no_base [] (k.about_known id v at live) (k.history.seen id v at).0 h.handed_is h.epochs_are (k.worn id v at) (no_base_is (state_of k.m k.g)) (omega arith)
 
 -- and so is the seat of a clone
 pub clone_more : (about : About) (words : List ℕ) (views : List View) (k : Kept about words views) (id : ℕ) (v : View) → get_elem? views id ≡ some v → is_live v.role ≡ 1 → Kept about words (views ++ seat_of v ∷ [])
 clone_more about words views k id v at live = let h = k.notes id v at in let b = (k.based id v at).0 in
-    silent_more about words views k v.rows v.passes v.base.history v.handed v.epochs v.worn v.base v.outworn (k.about_known id v at live) b.begins h.handed_is h.epochs_are (k.worn id v at) b h.drawn_is
+    silent_more about words views k v.rows v.passes v.base.history v.noted.handed v.noted.epochs v.noted.worn v.base v.outworn (k.about_known id v at live) b.begins h.handed_is h.epochs_are (k.worn id v at) b h.drawn_is
 
 empty_rows : (n : ℕ) → replicate (8 * n) 0 ≡ words_of_rows (replicate n empty_row)
 empty_rows zero = refl
@@ -192,11 +192,11 @@ starts about words few_rows few_passes zeros =
       present = each_one (KnowsEpoch 0) v (tt, λ _. refl);
       locked = record { count = λ r. sym (ap (λ (x : Row). is_taken x.lock) (row_empty (about.rows + 1) r)); owner = each_one (OwnsLocks m.rows) v (λ r l. absurd (omega arith)); writing = each_one (λ u. (r : ℕ) → times r u.holds ≤ in_write u.stage) v (λ r. omega arith) };
       known = each_one (KnowsRows m.rows) v tt;
-      reached = each_one (λ u. AllLinked [] u.reached) v tt;
+      reached = each_one (λ u. AllLinked [] u.trail.reached) v tt;
       ways = each_one (IsOnWay (state_of m g)) v tt;
       places = each_one (KnowsPlace (state_of m g)) v tt;
       worn = each_one (KnowsWorn (state_of m g)) v (λ (e : false ≡ true). cc);
-      lasting = each_one (λ u. AreLasting (state_of m g) u.lasting) v tt;
+      lasting = each_one (λ u. AreLasting (state_of m g) u.words.lasting) v tt;
       based = each_one (KnowsBase (state_of m g)) v (no_base_is (state_of m g), λ z. absurd (omega (arith, z)));
       tries = each_one (KnowsTry (state_of m g)) v tt;
       heights = each_one (λ u. AreHeights (state_of m g) u.holds u.heights) v tt;

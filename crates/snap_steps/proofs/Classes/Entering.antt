@@ -68,7 +68,7 @@ use Rattle.snap_steps.specs.declared.view.Fact.{Fact}
 
 -- the view of a pass that has made the entry e, after which these are the rows that it has reached, its own rows and what it knows
 abbrev pub with_entry : View → List Entry → Entry → (reached own : List ℕ) → List Fact → List Fact → Debt → View
-with_entry v log e reached own wrote knows debt = record v { reached = reached; heights = []; debt = debt; reads = Resting; seen = log ++ e ∷ []; mine = v.mine ++ e ∷ []; stage = Writing true false; own = own; wrote = wrote; knows = knows }
+with_entry v log e reached own wrote knows debt = record v { trail = record v.trail { reached = reached }; heights = []; debt = debt; way = record v.way { reads = Resting }; seen = log ++ e ∷ []; mine = v.mine ++ e ∷ []; stage = Writing true false; fresh = record v.fresh { own = own; wrote = wrote }; words = record v.words { knows = knows } }
 
 -- a step of a write without its entry that writes one word of a held row, or none, and makes the entry
 pub entering : (about : About) (words : List ℕ) (views : List View) (k : Kept about words views) (id : ℕ) (v : View) (at : get_elem? views id ≡ some v) (words' : List ℕ) (rows' : List Row) (e : Entry) (b : Beside) (reached own : List ℕ) (wrote knows : List Fact) (debt : Debt) (away : ℕ → Type 0)
@@ -111,11 +111,11 @@ entering about words views k id v at words' rows' e b reached own wrote knows de
       doing = each_stays views id v w at (λ u. DoingOk s' u.doing) (doings_stay (state_of k.m k.g) s' views k.doing (λ j u there n x. moves.2 n (clear j u there n x))) (λ p. p);
       held = each_stays views id v w at HoldsIts k.held (λ p. p);
       present = each_stays views id v w at (KnowsEpoch k.m.epoch) k.present (λ p. (p.0, λ z. absurd (omega (arith, z))));
-      reached = each_set {P = λ u. AllLinked k.g.linked u.reached} {Q = λ u. AllLinked b.linked u.reached} views id w k.reached (λ u p. all_linked_grows k.g.linked b.linked ev.linked u.reached p) all_reached;
+      reached = each_set {P = λ u. AllLinked k.g.linked u.trail.reached} {Q = λ u. AllLinked b.linked u.trail.reached} views id w k.reached (λ u p. all_linked_grows k.g.linked b.linked ev.linked u.trail.reached p) all_reached;
       ways = each_set {P = IsOnWay s'} {Q = IsOnWay s'} views id w (ways_evolve (state_of k.m k.g) s' views ev k.history.seen k.ways) (λ u p. p) tt;
       places = each_stays views id v w at (KnowsPlace s') (places_evolve (state_of k.m k.g) s' views ev k.places) (λ p. p);
       worn = each_stays views id v w at (KnowsWorn s') (worns_evolve (state_of k.m k.g) s' views ev k.worn) (λ p. p);
-      lasting = each_stays views id v w at (λ u. AreLasting s' u.lasting) (lastings_evolve (state_of k.m k.g) s' views ev k.lasting) (λ p. p);
+      lasting = each_stays views id v w at (λ u. AreLasting s' u.words.lasting) (lastings_evolve (state_of k.m k.g) s' views ev k.lasting) (λ p. p);
       based = each_stays views id v w at (KnowsBase s') (bases_evolve about words views k s' ev (λ none. absurd (omega (arith, a, none, term_le (λ u. in_write u.stage) views id v at)))) (λ p. (p.0, λ z. absurd (omega (arith, z))));
       tries = each_stays views id v w at (KnowsTry s') (tries_evolve (state_of k.m k.g) s' views ev k.tries) (λ p. p);
       marked = marks_stay views id v w k.m.rows rows' at k.marked stamps refl;
@@ -144,6 +144,6 @@ pub some_write : (views : List View) (id : ℕ) (v : View) (writers : ℕ) → g
 some_write views id v writers at is writing = λ z. omega (arith, term_le (λ u. in_write u.stage) views id v at)
 
 -- a row of which this is known under the lock is live
-pub born_live : (s : Table) (rows : List Row) (epoch : ℕ) (v : View) (r : ℕ) → TableOk s → s.birth r ≡ (row rows r).birth → s.stamp r ≡ (row rows r).stamp → s.epoch ≡ epoch → KnowsRows rows v → AllAre epoch v.present → In r s.linked → IsBorn v r → IsLive s r
+pub born_live : (s : Table) (rows : List Row) (epoch : ℕ) (v : View) (r : ℕ) → TableOk s → s.birth r ≡ (row rows r).birth → s.stamp r ≡ (row rows r).stamp → s.epoch ≡ epoch → KnowsRows rows v → AllAre epoch v.words.present → In r s.linked → IsBorn v r → IsLive s r
 born_live s rows epoch v r ok birth stamp now known present is h =
-    live_row s r h.birth h.stamp ok is (birth ∙ known_is rows v.holds v.knows r Birth h.birth known h.is_birth) (all_are epoch h.birth v.present present h.now ∙ sym now) (stamp ∙ known_is rows v.holds v.knows r Stamp h.stamp known h.is_stamp) h.unmarked
+    live_row s r h.birth h.stamp ok is (birth ∙ known_is rows v.holds v.words.knows r Birth h.birth known h.is_birth) (all_are epoch h.birth v.words.present present h.now ∙ sym now) (stamp ∙ known_is rows v.holds v.words.knows r Stamp h.stamp known h.is_stamp) h.unmarked

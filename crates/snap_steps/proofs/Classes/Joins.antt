@@ -106,7 +106,7 @@ joining about words views k id v at other u apart more there passing not_opening
       reached = each_join views id v b at other u gone apart there k.reached (λ x p. p) (k.reached id v at) tt;
       ways = each_join views id v b at other u gone apart there k.ways (λ x p. p) tt tt;
       places = each_join views id v b at other u gone apart there k.places (λ x p. p) (k.places id v at) tt;
-      worn = each_join views id v b at other u gone apart there k.worn (λ x p. p) (λ saw. ⊎_elim (k.worn id v at) (k.worn other u before_u) (or_cases v.worn u.worn saw)) (λ (e : false ≡ true). cc);
+      worn = each_join views id v b at other u gone apart there k.worn (λ x p. p) (λ saw. ⊎_elim (k.worn id v at) (k.worn other u before_u) (or_cases v.noted.worn u.noted.worn saw)) (λ (e : false ≡ true). cc);
       lasting = each_join views id v b at other u gone apart there k.lasting (λ x p. p) (k.lasting id v at) tt;
       based = each_join views id v b at other u gone apart there k.based (λ x p. p) (k.based id v at) (no_base_is (state_of k.m k.g), λ z. absurd (omega (arith, z)));
       tries = each_join views id v b at other u gone apart there k.tries (λ x p. p) (k.tries id v at) tt;

@@ -53,10 +53,10 @@ use Rattle.snap_steps.proofs.Parts.Worn.{worns_evolve}
 
 -- a step on a lock word
 pub locking : (about : About) (words : List ℕ) (views : List View) (k : Kept about words views) (id : ℕ) (v : View) (at : get_elem? views id ≡ some v) (r n : ℕ) (low : r ≤ about.rows) (holds : List ℕ) (knows : List Fact) (heights : List ChildHeight)
-    → in_write v.stage ≡ 1 → AreLocked (changed k.m.rows r Lock n) (set views id (record v { holds = holds; knows = knows; heights = heights })) → Each (KnowsRows (changed k.m.rows r Lock n)) (set views id (record v { holds = holds; knows = knows; heights = heights })) → (0 < r → 0 < times r k.g.linked) → AreHeights (state_of k.m k.g) holds heights → HoldsIts (record v { holds = holds; knows = knows; heights = heights })
-    → Kept about (set words (word_at r Lock) n) (set views id (record v { holds = holds; knows = knows; heights = heights }))
+    → in_write v.stage ≡ 1 → AreLocked (changed k.m.rows r Lock n) (set views id (record v { holds = holds; words = record v.words { knows = knows }; heights = heights })) → Each (KnowsRows (changed k.m.rows r Lock n)) (set views id (record v { holds = holds; words = record v.words { knows = knows }; heights = heights })) → (0 < r → 0 < times r k.g.linked) → AreHeights (state_of k.m k.g) holds heights → HoldsIts (record v { holds = holds; words = record v.words { knows = knows }; heights = heights })
+    → Kept about (set words (word_at r Lock) n) (set views id (record v { holds = holds; words = record v.words { knows = knows }; heights = heights }))
 locking about words views k id v at r n low holds knows heights writing are_locked known is_linked heights_are held =
-    let w : View = record v { holds = holds; knows = knows; heights = heights } in let rows' : List Row = changed k.m.rows r Lock n in let wide = k.memory.wide in
+    let w : View = record v { holds = holds; words = record v.words { knows = knows }; heights = heights } in let rows' : List Row = changed k.m.rows r Lock n in let wide = k.memory.wide in
     let some_writer : k.g.writers ≢ 0 = λ z. omega (arith, k.writers, term_le (λ u. in_write u.stage) views id v at) in
     let st : Table = state_of k.m k.g in let s' : Table = state_of (record k.m { rows = rows' }) k.g in
     let moves = lock_moves k.m k.g r n (omega arith) some_writer k.table in
@@ -84,11 +84,11 @@ locking about words views k id v at r n low holds knows heights writing are_lock
       doing = each_stays views id v w at (λ u. DoingOk (state_of (record k.m { rows = rows' }) k.g) u.doing) (doings_stay (state_of k.m k.g) (state_of (record k.m { rows = rows' }) k.g) views k.doing (λ j u there y c. moves.2 y tt)) (λ p. p);
       held = each_stays views id v w at HoldsIts k.held (λ p. held);
       present = each_stays views id v w at (KnowsEpoch k.m.epoch) k.present (λ p. p);
-      reached = each_stays views id v w at (λ u. AllLinked k.g.linked u.reached) k.reached (λ p. p);
+      reached = each_stays views id v w at (λ u. AllLinked k.g.linked u.trail.reached) k.reached (λ p. p);
       ways = each_stays views id v w at (IsOnWay (state_of (record k.m { rows = rows' }) k.g)) (ways_evolve (state_of k.m k.g) (state_of (record k.m { rows = rows' }) k.g) views moves.0 k.history.seen k.ways) (λ p. p);
       places = each_stays views id v w at (KnowsPlace (state_of (record k.m { rows = rows' }) k.g)) (places_evolve (state_of k.m k.g) (state_of (record k.m { rows = rows' }) k.g) views moves.0 k.places) (λ p. p);
       worn = each_stays views id v w at (KnowsWorn (state_of (record k.m { rows = rows' }) k.g)) (worns_evolve (state_of k.m k.g) (state_of (record k.m { rows = rows' }) k.g) views moves.0 k.worn) (λ p. p);
-      lasting = each_stays views id v w at (λ u. AreLasting (state_of (record k.m { rows = rows' }) k.g) u.lasting) (lastings_evolve (state_of k.m k.g) (state_of (record k.m { rows = rows' }) k.g) views moves.0 k.lasting) (λ p. p);
+      lasting = each_stays views id v w at (λ u. AreLasting (state_of (record k.m { rows = rows' }) k.g) u.words.lasting) (lastings_evolve (state_of k.m k.g) (state_of (record k.m { rows = rows' }) k.g) views moves.0 k.lasting) (λ p. p);
       based = each_stays views id v w at (KnowsBase (state_of (record k.m { rows = rows' }) k.g)) (bases_evolve about words views k (state_of (record k.m { rows = rows' }) k.g) moves.0 (λ _. refl)) (λ p. p);
       tries = each_stays views id v w at (KnowsTry (state_of (record k.m { rows = rows' }) k.g)) (tries_evolve (state_of k.m k.g) (state_of (record k.m { rows = rows' }) k.g) views moves.0 k.tries) (λ p. p);
       marked = marks_stay views id v w k.m.rows rows' at k.marked (stamps_same k.m.rows r (with_field Lock n (row k.m.rows r)) (omega arith) refl) refl;

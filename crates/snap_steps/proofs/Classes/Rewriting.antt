@@ -54,7 +54,7 @@ use Rattle.snap_steps.proofs.Parts.Worn.{worns_evolve}
 
 -- the view v, in what such a step may change, as w is
 abbrev pub with_words : View → View → View
-with_words v w = record v { steps = w.steps; doing = w.doing; knows = w.knows; own = w.own; wrote = w.wrote; reached = w.reached; copies = w.copies; heights = w.heights; debt = w.debt }
+with_words v w = record v { trail = w.trail; doing = w.doing; words = record v.words { knows = w.words.knows }; fresh = w.fresh; heights = w.heights; debt = w.debt }
 
 -- the class of these steps
 pub rewriting : (about : About) (words : List ℕ) (views : List View) (k : Kept about words views) (id : ℕ) (v w : View) (at : get_elem? views id ≡ some v) (words' : List ℕ) (rows' : List Row) (b : Beside) (away : ℕ → Type 0)
@@ -62,7 +62,7 @@ pub rewriting : (about : About) (words : List ℕ) (views : List View) (k : Kept
     → (let s' : Table = state_of (record k.m { rows = rows' }) (record b { history = k.g.history; writers = k.g.writers }) in Moves (state_of k.m k.g) s' away × DoingOk s' w.doing)
     → ((n : ℕ) (d : Side) → total (λ u. changing n d u.doing) (set views id (with_words v w)) ≡ 0 → b.pending n d ≡ plain)
     → HoldsIts (with_words v w) → ((j : ℕ) (u : View) → j ≢ id → get_elem? views j ≡ some u → (n : ℕ) → Concerns u.doing n → away n)
-    → AreLocked rows' (set views id (with_words v w)) → Each (KnowsRows rows') (set views id (with_words v w)) → AllLinked b.linked w.reached → AreApart k.m.next rows' b.linked (set views id (with_words v w)) → AreMarked rows' (set views id (with_words v w))
+    → AreLocked rows' (set views id (with_words v w)) → Each (KnowsRows rows') (set views id (with_words v w)) → AllLinked b.linked w.trail.reached → AreApart k.m.next rows' b.linked (set views id (with_words v w)) → AreMarked rows' (set views id (with_words v w))
     → (let s' : Table = state_of (record k.m { rows = rows' }) (record b { history = k.g.history; writers = k.g.writers }) in
     ((j : ℕ) (u : View) → j ≢ id → get_elem? views j ≡ some u → (n : ℕ) → 0 < times n u.holds → LeavesHeights (state_of k.m k.g) s' n) × AreHeights s' v.holds w.heights
     × KnowsDebt s' (with_words v w) × (HasRoom (state_of k.m k.g) k.m.next about.rows → DebtOk (state_of k.m k.g) (debts_of views) → DebtOk s' (updates.changed (debts_of views) id w.debt)))
@@ -91,11 +91,11 @@ rewriting about words views k id v w at words' rows' b away memory moves pending
       doing = each_others views id v at u (λ j u ne there. doing_kept s s' u.doing (λ n c. moves.0.2 n (clear j u ne there n c)) (k.doing j u there)) moves.1;
       held = each_others views id v at u (λ j u ne there. k.held j u there) held;
       present = each_stays views id v u at (KnowsEpoch k.m.epoch) k.present (λ p. p);
-      reached = each_set {P = λ u. AllLinked k.g.linked u.reached} {Q = λ u. AllLinked b.linked u.reached} views id u k.reached (λ x p. all_linked_grows k.g.linked b.linked ev.linked x.reached p) reached;
+      reached = each_set {P = λ u. AllLinked k.g.linked u.trail.reached} {Q = λ u. AllLinked b.linked u.trail.reached} views id u k.reached (λ x p. all_linked_grows k.g.linked b.linked ev.linked x.trail.reached p) reached;
       ways = each_stays views id v u at (IsOnWay s') (ways_evolve s s' views ev k.history.seen k.ways) (λ p. p);
       places = each_stays views id v u at (KnowsPlace s') (places_evolve s s' views ev k.places) (λ p. p);
       worn = each_stays views id v u at (KnowsWorn s') (worns_evolve s s' views ev k.worn) (λ p. p);
-      lasting = each_stays views id v u at (λ u. AreLasting s' u.lasting) (lastings_evolve s s' views ev k.lasting) (λ p. p);
+      lasting = each_stays views id v u at (λ u. AreLasting s' u.words.lasting) (lastings_evolve s s' views ev k.lasting) (λ p. p);
       based = each_stays views id v u at (KnowsBase s') (bases_evolve about words views k s' ev (λ _. refl)) (λ p. p);
       tries = each_stays views id v u at (KnowsTry s') (tries_evolve s s' views ev k.tries) (λ p. p);
       marked = marked;

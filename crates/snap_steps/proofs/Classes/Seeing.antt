@@ -46,7 +46,7 @@ use Rattle.snap_steps.specs.Rule.Lasting.{AreLasting}
 
 -- the view v, in what such a step may change, as w is
 abbrev pub with_sight : View → View → View
-with_sight v w = record v { steps = w.steps; seen = w.seen; joined = w.joined; notes = w.notes; handed = w.handed; epochs = w.epochs; worn = w.worn; knows = w.knows; refused = w.refused; lasting = w.lasting; reached = w.reached; reads = w.reads; confirmed = w.confirmed; place = w.place; present = w.present; outworn = w.outworn }
+with_sight v w = record v { trail = w.trail; seen = w.seen; joined = w.joined; noted = w.noted; words = w.words; way = w.way; outworn = w.outworn }
 
 -- and, of its call that never waits, of heights and of its debt, as w is
 abbrev pub with_try : View → View → View
@@ -54,7 +54,7 @@ with_try v w = record (with_sight v w) { tries = w.tries; heights = w.heights; d
 
 -- a step that writes no word, after which the pass has seen or knows more, and has gone on with such a call
 pub trying : (about : About) (words : List ℕ) (views : List View) (k : Kept about words views) (i id : ℕ) (v w : View) (at : get_elem? views id ≡ some v)
-    → AreFacts k.m.rows v.holds w.knows → AllLinked k.g.linked w.reached → IsOnWay (state_of k.m k.g) w → KnowsPlace (state_of k.m k.g) w → KnowsEpoch k.m.epoch (with_try v w) → KnowsHeader k.m.next k.m.epoch (with_try v w) → KnowsWorn (state_of k.m k.g) w → AreLasting (state_of k.m k.g) w.lasting → KnowsTry (state_of k.m k.g) w
+    → AreFacts k.m.rows v.holds w.words.knows → AllLinked k.g.linked w.trail.reached → IsOnWay (state_of k.m k.g) w → KnowsPlace (state_of k.m k.g) w → KnowsEpoch k.m.epoch (with_try v w) → KnowsHeader k.m.next k.m.epoch (with_try v w) → KnowsWorn (state_of k.m k.g) w → AreLasting (state_of k.m k.g) w.words.lasting → KnowsTry (state_of k.m k.g) w
     → AreHeights (state_of k.m k.g) v.holds w.heights → KnowsDebt (state_of k.m k.g) (with_try v w) → (HasRoom (state_of k.m k.g) k.m.next about.rows → DebtOk (state_of k.m k.g) (debts_of views) → DebtOk (state_of k.m k.g) (updates.changed (debts_of views) id w.debt))
     → Begins v.seen w.seen → Begins w.seen k.g.history → AllBegin w.joined k.g.history → Kept about (set words i (get_or words i 0)) (set views id (with_try v w))
 trying about words views k i id v w at knows_rows reached way place present notes worn lasting tries heights debt owed more less joined =
@@ -90,11 +90,11 @@ trying about words views k i id v w at knows_rows reached way place present note
       present = each_stays views id v u at (KnowsEpoch k.m.epoch) k.present (λ _. present);
       locked = locked_stays views id v u at k.m.rows k.locked refl refl (k.locked.writing id v at);
       known = each_stays views id v u at (KnowsRows k.m.rows) k.known (λ _. knows_rows);
-      reached = each_stays views id v u at (λ x. AllLinked k.g.linked x.reached) k.reached (λ _. reached);
+      reached = each_stays views id v u at (λ x. AllLinked k.g.linked x.trail.reached) k.reached (λ _. reached);
       ways = each_stays views id v u at (IsOnWay (state_of k.m k.g)) k.ways (λ _. way);
       places = each_stays views id v u at (KnowsPlace (state_of k.m k.g)) k.places (λ _. place);
       worn = each_stays views id v u at (KnowsWorn (state_of k.m k.g)) k.worn (λ _. worn);
-      lasting = each_stays views id v u at (λ x. AreLasting (state_of k.m k.g) x.lasting) k.lasting (λ _. lasting);
+      lasting = each_stays views id v u at (λ x. AreLasting (state_of k.m k.g) x.words.lasting) k.lasting (λ _. lasting);
       based = each_stays views id v u at (KnowsBase (state_of k.m k.g)) k.based (λ p. p);
       tries = each_stays views id v u at (KnowsTry (state_of k.m k.g)) k.tries (λ _. tries);
       heights = each_stays views id v u at (λ x. AreHeights (state_of k.m k.g) x.holds x.heights) k.heights (λ _. heights);
@@ -106,7 +106,7 @@ trying about words views k i id v w at knows_rows reached way place present note
 
 -- the same outside such a call
 pub seeing : (about : About) (words : List ℕ) (views : List View) (k : Kept about words views) (i id : ℕ) (v w : View) (at : get_elem? views id ≡ some v)
-    → AreFacts k.m.rows v.holds w.knows → AllLinked k.g.linked w.reached → IsOnWay (state_of k.m k.g) w → KnowsPlace (state_of k.m k.g) w → KnowsEpoch k.m.epoch (with_sight v w) → KnowsHeader k.m.next k.m.epoch (with_sight v w) → KnowsWorn (state_of k.m k.g) w → AreLasting (state_of k.m k.g) w.lasting
+    → AreFacts k.m.rows v.holds w.words.knows → AllLinked k.g.linked w.trail.reached → IsOnWay (state_of k.m k.g) w → KnowsPlace (state_of k.m k.g) w → KnowsEpoch k.m.epoch (with_sight v w) → KnowsHeader k.m.next k.m.epoch (with_sight v w) → KnowsWorn (state_of k.m k.g) w → AreLasting (state_of k.m k.g) w.words.lasting
     → Begins v.seen w.seen → Begins w.seen k.g.history → AllBegin w.joined k.g.history → Kept about (set words i (get_or words i 0)) (set views id (with_sight v w))
 seeing about words views k i id v w at knows_rows reached way place present notes worn lasting more less joined =
     trying about words views k i id v (with_sight v w) at knows_rows reached way place present notes worn lasting (k.tries id v at) (k.heights id v at) (k.debts id v at) (λ _ ok. owed_itself views id v at (state_of k.m k.g) ok) more less joined

@@ -76,14 +76,14 @@ Rule about s = Kept about s.words s.views
 pub turning : (about : About) (words : List ℕ) (views : List View) (k : Kept about words views) (id : ℕ) (v : View) (at : get_elem? views id ≡ some v) (words' : List ℕ) (m' : Memory) (notes : List WordNote) (handed epochs : ℕ) (stage : Stage) (uses : ℕ) (present copies : List ℕ) (debt : Debt) (reads place : Reading)
     → IsMemory about words' m' → m'.next ≡ k.m.next → m'.epoch ≡ k.m.epoch → IsTrueOfHeader m'.next m'.epoch notes handed epochs v.base.drawn
     → m'.done + owes_count stage ≡ k.m.done + owes_count v.stage → m'.done + k.m.left + has_counted v.stage ≤ k.m.done + m'.left + has_counted stage → m'.rows ≡ k.m.rows → ((r : ℕ) → times r v.holds ≤ in_write stage) → AllAre k.m.epoch present × (in_write stage ≡ 0 → present ≡ [])
-    → IsGated m'.gate m'.left (set views id (record v { notes = notes; handed = handed; epochs = epochs; stage = stage; uses = uses; present = present; copies = copies; debt = debt; reads = reads; place = place }))
-    → AreUsed m'.gate m'.epoch (set views id (record v { notes = notes; handed = handed; epochs = epochs; stage = stage; uses = uses; present = present; copies = copies; debt = debt; reads = reads; place = place }))
+    → IsGated m'.gate m'.left (set views id (record v { noted = record v.noted { notes = notes; handed = handed; epochs = epochs }; stage = stage; uses = uses; words = record v.words { present = present }; fresh = record v.fresh { copies = copies }; debt = debt; way = record v.way { reads = reads; place = place } }))
+    → AreUsed m'.gate m'.epoch (set views id (record v { noted = record v.noted { notes = notes; handed = handed; epochs = epochs }; stage = stage; uses = uses; words = record v.words { present = present }; fresh = record v.fresh { copies = copies }; debt = debt; way = record v.way { reads = reads; place = place } }))
     → k.m.gate / 2 ≤ m'.gate / 2 → (m'.gate / 2 ≡ k.m.gate / 2 → in_write stage ≤ in_write v.stage) → (is_counted v.role ≡ 0 → stage ≡ Idle) → CutStays v.stage stage
     → (DebtDoing (state_of k.m k.g) v.doing debt × (in_write stage ≡ 0 → debt ≡ no_debt) × (HasRoom (state_of k.m k.g) k.m.next about.rows → DebtOk (state_of k.m k.g) (debts_of views) → DebtOk (state_of k.m k.g) (updates.changed (debts_of views) id debt)))
     → ReadingOk (state_of k.m k.g) v.seen reads × PlaceKnown (state_of k.m k.g) place
-    → Kept about words' (set views id (record v { notes = notes; handed = handed; epochs = epochs; stage = stage; uses = uses; present = present; copies = copies; debt = debt; reads = reads; place = place }))
+    → Kept about words' (set views id (record v { noted = record v.noted { notes = notes; handed = handed; epochs = epochs }; stage = stage; uses = uses; words = record v.words { present = present }; fresh = record v.fresh { copies = copies }; debt = debt; way = record v.way { reads = reads; place = place } }))
 turning about words views k id v at words' m' notes handed epochs stage uses present copies debt reads place memory next epoch true_notes counted few rows writing knows_epoch gated used up entering acts cut_stays_so owed searching =
-    let w : View = record v { notes = notes; handed = handed; epochs = epochs; stage = stage; uses = uses; present = present; copies = copies; debt = debt; reads = reads; place = place } in
+    let w : View = record v { noted = record v.noted { notes = notes; handed = handed; epochs = epochs }; stage = stage; uses = uses; words = record v.words { present = present }; fresh = record v.fresh { copies = copies }; debt = debt; way = record v.way { reads = reads; place = place } } in
     let half = gated.half in let one = gated.one in let was = k.writers in
     let total_in : total (λ u. in_write u.stage) (set views id w) + in_write v.stage ≡ total (λ u. in_write u.stage) views + in_write stage = total-set (λ u. in_write u.stage) views id v w at in
     let may : MayCount (state_of k.m k.g) m'.gate m'.left (total (λ u. in_write u.stage) (set views id w)) = record { up = up; entering = λ same none. omega (arith, entering same); count = omega arith } in
@@ -110,11 +110,11 @@ turning about words views k id v at words' m' notes handed epochs stage uses pre
       doing = each_stays views id v w at (λ u. DoingOk (state_of m' (record k.g { writers = total (λ u. in_write u.stage) (set views id w) })) u.doing) (doings_stay (state_of k.m k.g) (state_of m' (record k.g { writers = total (λ u. in_write u.stage) (set views id w) })) views k.doing (λ j u there n c. moves.2 n tt)) (λ p. p);
       held = each_stays views id v w at HoldsIts k.held (λ p. p);
       present = subst (λ e. Each (KnowsEpoch e) (set views id w)) (sym epoch) (each_stays views id v w at (KnowsEpoch k.m.epoch) k.present (λ p. knows_epoch));
-      reached = each_stays views id v w at (λ u. AllLinked k.g.linked u.reached) k.reached (λ p. p);
+      reached = each_stays views id v w at (λ u. AllLinked k.g.linked u.trail.reached) k.reached (λ p. p);
       ways = each_stays views id v w at (IsOnWay (state_of m' (record k.g { writers = total (λ u. in_write u.stage) (set views id w) }))) (ways_evolve (state_of k.m k.g) (state_of m' (record k.g { writers = total (λ u. in_write u.stage) (set views id w) })) views moves.0 k.history.seen k.ways) (λ _. reading_evolves st s' moves.0 v.seen reads (k.history.seen id v at).0 searching.0);
       places = each_stays views id v w at (KnowsPlace (state_of m' (record k.g { writers = total (λ u. in_write u.stage) (set views id w) }))) (places_evolve (state_of k.m k.g) (state_of m' (record k.g { writers = total (λ u. in_write u.stage) (set views id w) })) views moves.0 k.places) (λ _. place_known_evolves st s' moves.0 place searching.1);
       worn = each_stays views id v w at (KnowsWorn (state_of m' (record k.g { writers = total (λ u. in_write u.stage) (set views id w) }))) (worns_evolve (state_of k.m k.g) (state_of m' (record k.g { writers = total (λ u. in_write u.stage) (set views id w) })) views moves.0 k.worn) (λ p. p);
-      lasting = each_stays views id v w at (λ u. AreLasting (state_of m' (record k.g { writers = total (λ u. in_write u.stage) (set views id w) })) u.lasting) (lastings_evolve (state_of k.m k.g) (state_of m' (record k.g { writers = total (λ u. in_write u.stage) (set views id w) })) views moves.0 k.lasting) (λ p. p);
+      lasting = each_stays views id v w at (λ u. AreLasting (state_of m' (record k.g { writers = total (λ u. in_write u.stage) (set views id w) })) u.words.lasting) (lastings_evolve (state_of k.m k.g) (state_of m' (record k.g { writers = total (λ u. in_write u.stage) (set views id w) })) views moves.0 k.lasting) (λ p. p);
       based = each_stays views id v w at (KnowsBase (state_of m' (record k.g { writers = total (λ u. in_write u.stage) (set views id w) }))) (bases_evolve about words views k (state_of m' (record k.g { writers = total (λ u. in_write u.stage) (set views id w) })) moves.0 (λ _. refl)) (λ p. (p.0, λ z. let was = cut_stays_so z in let q = p.1 was.0 in (was.1 q.0, q.1, q.2)));
       tries = each_stays views id v w at (KnowsTry (state_of m' (record k.g { writers = total (λ u. in_write u.stage) (set views id w) }))) (tries_evolve (state_of k.m k.g) (state_of m' (record k.g { writers = total (λ u. in_write u.stage) (set views id w) })) views moves.0 k.tries) (λ p. p);
       marked = marks_stay views id v w k.m.rows m'.rows at k.marked (λ n. ap (λ (l : List Row). (row l n).stamp) rows) refl;
@@ -130,5 +130,5 @@ turning about words views k id v at words' m' notes handed epochs stage uses pre
 pub noting : (about : About) (words : List ℕ) (views : List View) (k : Kept about words views) (i id : ℕ) (v : View) (n : WordNote) → get_elem? views id ≡ some v → IsTrueNote k.m.next k.m.epoch n
     → Kept about (set words i (get_or words i 0)) (set views id (noted v n))
 noting about words views k i id v n at is =
-    turning about words views k id v at (set words i (get_or words i 0)) k.m (v.notes ++ n ∷ []) (handed_after v.handed n) (epochs_after v.epochs n) v.stage v.uses v.present v.copies v.debt v.reads v.place (loaded k.memory i) refl refl (header_more k.m.next k.m.epoch v n (k.notes id v at) is) refl (omega arith) refl (k.locked.writing id v at) (k.present id v at)
+    turning about words views k id v at (set words i (get_or words i 0)) k.m (v.noted.notes ++ n ∷ []) (handed_after v.noted.handed n) (epochs_after v.noted.epochs n) v.stage v.uses v.words.present v.fresh.copies v.debt v.way.reads v.way.place (loaded k.memory i) refl refl (header_more k.m.next k.m.epoch v n (k.notes id v at) is) refl (omega arith) refl (k.locked.writing id v at) (k.present id v at)
     (gated_stays views id v (noted v n) at k.m.gate k.m.left k.gated refl) (used_stays views id v (noted v n) at k.m.gate k.m.epoch k.used refl refl refl refl refl) (omega arith) (λ same. omega arith) (λ z. (k.acting id v at z).0) (λ z. (z, λ q. q)) ((k.debts id v at).0, (k.debts id v at).1, λ _ ok. owed_itself views id v at (state_of k.m k.g) ok) (k.ways id v at, k.places id v at)

@@ -49,11 +49,11 @@ confirms_below about slots id me r key f passing writing place whole s k wide at
     let v : View = me.0 in let known = k.known id v at in let st : Table = state_of k.m k.g in
     let d : Side = place.side in
     let e : Entry = entry v.who (Remove key) None in let w : View = made_entry v k.g.history e in
-    let way : PointOk st v.seen key (Standing r place.stamp d) = standing_at st v.seen key r place.stamp d v.reads (k.ways id v at) place.way in
-    let stamp : st.stamp r ≡ place.stamp = known_is k.m.rows v.holds v.knows r Stamp place.stamp known place.still in
+    let way : PointOk st v.seen key (Standing r place.stamp d) = standing_at st v.seen key r place.stamp d v.way.reads (k.ways id v at) place.way in
+    let stamp : st.stamp r ≡ place.stamp = known_is k.m.rows v.holds v.words.knows r Stamp place.stamp known place.still in
     let live : r ≢ 0 → IsLive st r = λ nz. born_live st k.m.rows k.m.epoch v r k.table refl refl refl known (k.present id v at).0 (is_in st r nz way.stamp.reached) (is_born v r nz place.live) in
     let under = below st v.seen key r d way.faces (way.placed stamp) live in
-    let none : st.link r d ≡ 0 = ap (λ (y : Field). field y (row k.m.rows r)) (sym place.by_side) ∙ known_is k.m.rows v.holds v.knows r f 0 known place.none in
+    let none : st.link r d ≡ 0 = ap (λ (y : Field). field y (row k.m.rows r)) (sym place.by_side) ∙ known_is k.m.rows v.holds v.words.knows r f 0 known place.none in
     let absent : find k.g.tree key ≡ None = absent_below st key r d k.table way.faces under.stands (held_plain k id v at whole r place.held d) none in
     let none_there : told k.g.history key ≡ None = sym (k.table.tree.tells key) ∙ absent in
     let may : entry_kinds.MayConfirmAbsent st e = record { removal = refl; absent = absent } in
@@ -62,7 +62,7 @@ confirms_below about slots id me r key f passing writing place whole s k wide at
       w,
       keeps,
       tt,
-      entering about s.words s.views k id v at (set s.words (word_at r f) (get_or s.words (word_at r f) 0)) k.m.rows e k.g v.reached v.own v.wrote v.knows v.debt Anywhere (k.reached id v at) (loaded k.memory (word_at r f)) passing writing refl (sym none_there) moves (λ n d. refl) (λ j u there n c. tt)
+      entering about s.words s.views k id v at (set s.words (word_at r f) (get_or s.words (word_at r f) 0)) k.m.rows e k.g v.trail.reached v.fresh.own v.fresh.wrote v.words.knows v.debt Anywhere (k.reached id v at) (loaded k.memory (word_at r f)) passing writing refl (sym none_there) moves (λ n d. refl) (λ j u there n c. tt)
           (locked_stays s.views id v w at k.m.rows k.locked refl refl (λ x. omega (arith, k.locked.writing id v at x, ap in_write writing)))
           (each_stays s.views id v w at (KnowsRows k.m.rows) k.known (λ p. p))
           (apart_stays s.views id v w at k.m.next k.m.next k.m.rows k.g.linked k.apart (omega arith) (λ p. p) (λ p. p)) (λ n. refl) (absent_owed k id v at e moves),

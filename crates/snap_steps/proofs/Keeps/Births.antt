@@ -39,24 +39,24 @@ use Rattle.snap_steps.specs.declared.view.WordNote.TheVariants as notes
 -- what such a load finds
 record Finds (about : About) (words : List ℕ) (views : List View) (k : Kept about words views) (v : View) (r b : ℕ) : Type 0 where
   pub facts : KnowsRows k.m.rows (born v r b)
-  pub reached : AllLinked k.g.linked (born v r b).reached
+  pub reached : AllLinked k.g.linked (born v r b).trail.reached
   pub worn : KnowsWorn (state_of k.m k.g) (born v r b)
-  pub lasting : AreLasting (state_of k.m k.g) (born v r b).lasting
+  pub lasting : AreLasting (state_of k.m k.g) (born v r b).words.lasting
   pub past : IsPast v b
 
-finds : (about : About) (words : List ℕ) (views : List View) (k : Kept about words views) (id : ℕ) (v : View) (r : ℕ) → get_elem? views id ≡ some v → r ≤ about.rows → 0 < times r v.reached → Finds about words views k v r (get_or words (word_at r Birth) 0)
+finds : (about : About) (words : List ℕ) (views : List View) (k : Kept about words views) (id : ℕ) (v : View) (r : ℕ) → get_elem? views id ≡ some v → r ≤ about.rows → 0 < times r v.trail.reached → Finds about words views k v r (get_or words (word_at r Birth) 0)
 finds about words views k id v r at low came =
     let b : ℕ = get_or words (word_at r Birth) 0 in let is : b ≡ (row k.m.rows r).birth = cell_is k.memory r Birth low in let known = k.known id v at in
-    let was : In r k.g.linked = in_of k.g.linked v.reached r (k.reached id v at) came in record {
-      facts = cond_both (nat_lt 0 (times r v.holds)) (fact r Birth b ∷ v.knows) v.knows (λ l. AreFacts k.m.rows v.holds l) (λ held. (sym is, grind (arith, nat_tests), known)) (λ not. known);
-      reached = in_append k.g.linked v.reached (led_to v r Birth b) (k.reached id v at) (led_in k.m k.g v r Birth b k.table (k.reached id v at) (sym is));
-      worn = λ saw. ⊎_elim (k.worn id v at) (last_found about words views k r Birth b (sym is)) (or_cases v.worn (is_last Birth b) saw);
+    let was : In r k.g.linked = in_of k.g.linked v.trail.reached r (k.reached id v at) came in record {
+      facts = cond_both (nat_lt 0 (times r v.holds)) (fact r Birth b ∷ v.words.knows) v.words.knows (λ l. AreFacts k.m.rows v.holds l) (λ held. (sym is, grind (arith, nat_tests), known)) (λ not. known);
+      reached = in_append k.g.linked v.trail.reached (led_to v r Birth b) (k.reached id v at) (led_in k.m k.g v r Birth b k.table (k.reached id v at) (sym is));
+      worn = λ saw. ⊎_elim (k.worn id v at) (last_found about words views k r Birth b (sym is)) (or_cases v.noted.worn (is_last Birth b) saw);
       lasting = (record { linked = in_times r k.g.linked was; word = sym is; lasts = inl refl }, k.lasting id v at);
-      past = λ e some_e. omega (arith, is, k.table.links.births r was, all_are k.m.epoch e v.present (k.present id v at).0 some_e);
+      past = λ e some_e. omega (arith, is, k.table.links.births r was, all_are k.m.epoch e v.words.present (k.present id v at).0 some_e);
     }
 
 -- `load_birth`
-pub loads_birth : (about : About) (slots id : ℕ) (me : Sat) (r : ℕ) → r ≤ about.rows → 0 < times r me.0.reached → Allows (Rule about) slots id me (word_at r Birth) (λ n. n) (birth_loaded (step slots (word_at r Birth) 0 0 maybe.none) me)
+pub loads_birth : (about : About) (slots id : ℕ) (me : Sat) (r : ℕ) → r ≤ about.rows → 0 < times r me.0.trail.reached → Allows (Rule about) slots id me (word_at r Birth) (λ n. n) (birth_loaded (step slots (word_at r Birth) 0 0 maybe.none) me)
 loads_birth about slots id me r low came s k wide at small =
     let v : View = me.0 in let b : ℕ = get_or s.words (word_at r Birth) 0 in let seen = k.history.seen id v at in let f = finds about s.words s.views k id v r at low came in (
       born v r b,
@@ -70,7 +70,7 @@ one_key : (k q : ℕ) (t u : Point) (r : Reading) → r ≡ On k t → r ≡ On 
 one_key k q t u r a b = cc
 
 -- `note_birth`
-pub notes_birth : (about : About) (slots id : ℕ) (me : Sat) (r key : ℕ) (point : Point) → r ≤ about.rows → 0 < times r me.0.reached → me.0.reads ≡ On key point → me.0.confirmed ≡ r ∷ []
+pub notes_birth : (about : About) (slots id : ℕ) (me : Sat) (r key : ℕ) (point : Point) → r ≤ about.rows → 0 < times r me.0.trail.reached → me.0.way.reads ≡ On key point → me.0.way.confirmed ≡ r ∷ []
     → Allows (Rule about) slots id me (word_at r Birth) (λ n. n) (way_birth_loaded (step slots (word_at r Birth) 0 0 maybe.none) me)
 notes_birth about slots id me r key point low came way confirmed s k wide at small =
     let v : View = me.0 in let b : ℕ = get_or s.words (word_at r Birth) 0 in let seen = k.history.seen id v at in let f = finds about s.words s.views k id v r at low came in
@@ -79,5 +79,5 @@ notes_birth about slots id me r key point low came way confirmed s k wide at sma
       keeps,
       tt,
       seeing about s.words s.views k (word_at r Birth) id v w at f.facts f.reached (k.ways id v at) (k.places id v at) (k.present id v at) (header_more k.m.next k.m.epoch v (notes.Birth key b) (k.notes id v at) tt) f.worn f.lasting (begins_itself v.seen) seen.0 seen.1,
-      λ r' key' point' same way'. let t = one_word r r' Birth Birth same in let q = one_key key key' point point' v.reads way way' in ((λ i. (birth_noted v (q i) (t.0 i) b, me.1)), f.past, confirmed ∙ ap (λ (z : ℕ). z ∷ []) t.0),
+      λ r' key' point' same way'. let t = one_word r r' Birth Birth same in let q = one_key key key' point point' v.way.reads way way' in ((λ i. (birth_noted v (q i) (t.0 i) b, me.1)), f.past, confirmed ∙ ap (λ (z : ℕ). z ∷ []) t.0),
     )

@@ -111,20 +111,20 @@ abbrev turning_debt : ℕ → ℕ → List Mark → Debt
 turning_debt key r l = record { to_do = Some key; list = l; turning = Some r }
 
 -- `mark_shrinking`
-pub shrinks : (about : About) (slots id : ℕ) (me : Sat) (parent : ℕ) (p : Side) (r : ℕ) (d : Side) (raised x key : ℕ) → r ≤ about.rows → is_live me.0.role ≡ 1 → IsTurn me.0 parent p r d raised → TurnsFor me.0 parent r raised key → IsKnown me.0.knows r Stamp x → x % 4 ≡ 0 → count_of x < last_count → me.0.doing ≡ Nothing
+pub shrinks : (about : About) (slots id : ℕ) (me : Sat) (parent : ℕ) (p : Side) (r : ℕ) (d : Side) (raised x key : ℕ) → r ≤ about.rows → is_live me.0.role ≡ 1 → IsTurn me.0 parent p r d raised → TurnsFor me.0 parent r raised key → IsKnown me.0.words.knows r Stamp x → x % 4 ≡ 0 → count_of x < last_count → me.0.doing ≡ Nothing
     → Allows (Rule about) slots id me (word_at r Stamp) (λ _. x + 2) (λ _. shrinking_stored parent p r d raised key (step slots (word_at r Stamp) (x + 2) 0 maybe.none) me 0)
 shrinks about slots id me parent p r d raised x key low is_pass turn aims stamp_known unmarked below_last whole s k wide at small =
     let v : View = me.0 in let w : View = shrunk v parent p r d raised (x + 2) key in let rows_wide = k.memory.wide in let near : r < length k.m.rows = omega arith in
     let o : Row = with_field Stamp (x + 2) (row k.m.rows r) in let rows' : List Row = changed k.m.rows r Stamp (x + 2) in let st : Table = state_of k.m k.g in
     let known = k.known id v at in let present = (k.present id v at).0 in
-    let linked : (n : ℕ) → 0 < times n v.reached → In n k.g.linked = λ n. in_of k.g.linked v.reached n (k.reached id v at) in
-    let alive : (n : ℕ) → 0 < times n v.reached → IsBorn v n → IsLive st n = λ n l. born_live st k.m.rows k.m.epoch v n k.table refl refl refl known present (linked n l) in
+    let linked : (n : ℕ) → 0 < times n v.trail.reached → In n k.g.linked = λ n. in_of k.g.linked v.trail.reached n (k.reached id v at) in
+    let alive : (n : ℕ) → 0 < times n v.trail.reached → IsBorn v n → IsLive st n = λ n l. born_live st k.m.rows k.m.epoch v n k.table refl refl refl known present (linked n l) in
     let live : IsLive st r = alive r turn.reached turn.born in
-    let stamp : (row k.m.rows r).stamp ≡ x = known_is k.m.rows v.holds v.knows r Stamp x known stamp_known in
+    let stamp : (row k.m.rows r).stamp ≡ x = known_is k.m.rows v.holds v.words.knows r Stamp x known stamp_known in
     let writing : in_write v.stage ≡ 1 = let held = turn.held in omega (arith, k.locked.writing id v at r, in_write_le v.stage) in
     let plain_at = held_plain k id v at whole in
-    let child = known_is k.m.rows v.holds v.knows parent (link_field p) r known turn.child in
-    let raised_link = known_is k.m.rows v.holds v.knows r (link_field d) raised known turn.raised_child in
+    let child = known_is k.m.rows v.holds v.words.knows parent (link_field p) r known turn.child in
+    let raised_link = known_is k.m.rows v.holds v.words.knows r (link_field d) raised known turn.raised_child in
     let links : k.g.links r d ≡ raised = sym (subst (kinds_fits st r d) (plain_at r turn.held d) (k.table.changes.fits r d (inr live.stands))) ∙ raised_link in
     let is_turn : IsRotation st parent p r d raised = record {
       parent_live = parent_is st p turn.parent_born (λ l b. alive parent l b);
@@ -146,7 +146,7 @@ shrinks about slots id me parent p r d raised x key low is_pass turn aims stamp_
     let debt_is : shrink_debt marked_st r key v.debt ≡ w.debt = ap (turning_debt key r) (listing_is marked_st r (x + 2) v.debt.list new_stamp) in
     let debt_at : debts_of s.views id ≡ v.debt = debts_at s.views id v at in
     let parent_links : k.g.links parent p ≡ r = sym (subst (kinds_fits st parent p) (plain_at parent turn.held_parent p) (k.table.changes.fits parent p (parent_stands st p is_turn.parent_live))) ∙ child in
-    let key_of : (n y : ℕ) → IsKnown v.knows n Key y → st.key n ≡ y = λ n y. known_is k.m.rows v.holds v.knows n Key y known in
+    let key_of : (n y : ℕ) → IsKnown v.words.knows n Key y → st.key n ≡ y = λ n y. known_is k.m.rows v.holds v.words.knows n Key y known in
     let key_is : AimsAtTurn marked_st (shrink_debt marked_st r key v.debt) r raised = ⊎_elim (λ h. inl (ap Some (sym (key_of r key h.0)))) (λ h. inr (ap Some (sym (key_of raised key h.0)))) aims in
     let aims_at : (n : ℕ) → AimsAt v n → Aims st (debts_of s.views id) n = λ n h. (h.is_row, ap (λ (u : Debt). u.to_do) debt_at ∙ h.to_do ∙ ap Some (sym (key_of n h.key h.is_key))) in
     let owe : HasRoom st k.m.next about.rows → (key ≡ st.key r) × (OwesNone st (debts_of s.views id) ⊎ Aims st (debts_of s.views id) r ⊎ Aims st (debts_of s.views id) parent) ⊎ (key ≡ st.key raised) × ((debts_of s.views id).to_do ≡ Some key) = λ room.
@@ -162,8 +162,8 @@ shrinks about slots id me parent p r d raised x key low is_pass turn aims stamp_
           (λ n c. concerned v turn n c)
           (λ j u ne there n c q. omega (arith, k.held j u there n c, others_apart s.views id v at k.m.rows r k.locked turn.held j u ne there, ap (λ (i : ℕ). times i u.holds) q))
           (locks_stay s.views id v at k.m.rows r o w k.locked refl near refl refl refl)
-          (each_others s.views id v at w (λ j u ne there. facts_elsewhere k.m.rows r o u.holds u.holds u.knows (k.known j u there) (others_apart s.views id v at k.m.rows r k.locked turn.held j u ne there) (λ y. omega arith))
-          (ap (λ (y : Row). y.stamp) (row_same k.m.rows r o near), turn.held, facts_left k.m.rows r Stamp (x + 2) v.holds v.knows near known))
+          (each_others s.views id v at w (λ j u ne there. facts_elsewhere k.m.rows r o u.holds u.holds u.words.knows (k.known j u there) (others_apart s.views id v at k.m.rows r k.locked turn.held j u ne there) (λ y. omega arith))
+          (ap (λ (y : Row). y.stamp) (row_same k.m.rows r o near), turn.held, facts_left k.m.rows r Stamp (x + 2) v.holds v.words.knows near known))
           (k.reached id v at)
           (apart_changed s.views id v w at k.m.next k.m.rows k.g.linked k.apart (λ u j there. omega (arith, k.drawn.none_zero, term_le (times_drawn 0) s.views j u there)) r o
           (λ y pos z ne. let q = row_other k.m.rows r y o ne in let f = k.apart.fresh y pos z in (ap (λ (i : Row). i.lock) q ∙ f.0, ap (λ (i : Row). i.stamp) q ∙ f.1)) (λ pos. in_times r k.g.linked (linked r turn.reached)) refl refl refl)
@@ -194,7 +194,7 @@ shrinks about slots id me parent p r d raised x key low is_pass turn aims stamp_
     kinds_fits : (s : Table) (n : ℕ) (d : Side) → Rattle.snap_rule.specs.State.Change → Type 0
     kinds_fits s n d c = Rattle.snap_rule.specs.Rule.Fits s n d c
 
-    parent_is : (s : Table) (p : Side) → ((parent ≡ 0) × (p ≡ sides.Right)) ⊎ ((0 < times parent me.0.reached) × IsBorn me.0 parent) → (0 < times parent me.0.reached → IsBorn me.0 parent → IsLive s parent) → rule.IsParent s parent p
+    parent_is : (s : Table) (p : Side) → ((parent ≡ 0) × (p ≡ sides.Right)) ⊎ ((0 < times parent me.0.trail.reached) × IsBorn me.0 parent) → (0 < times parent me.0.trail.reached → IsBorn me.0 parent → IsLive s parent) → rule.IsParent s parent p
     parent_is s p (inl z) f = inl z
     parent_is s p (inr h) f = inr (f h.0 h.1)
 

@@ -155,7 +155,7 @@ module _ (about : About) (slots id : ℕ) (me : Sat) where
   loads_stamp r near s k wide at small =
       let v : View = me.0 in let found : ℕ = get_or s.words (word_at r Stamp) 0 in let is : found ≡ field Stamp (row k.m.rows r) = cell_is k.memory r Stamp near in
       let w : View = stamp_noted v r found in let seen = k.history.seen id v at in
-      let worn : KnowsWorn (state_of k.m k.g) w = λ saw. ⊎_elim (k.worn id v at) (last_found about s.words s.views k r Stamp found (sym is)) (or_cases v.worn (is_last Stamp found) saw) in (
+      let worn : KnowsWorn (state_of k.m k.g) w = λ saw. ⊎_elim (k.worn id v at) (last_found about s.words s.views k r Stamp found (sym is)) (or_cases v.noted.worn (is_last Stamp found) saw) in (
         w,
         keeps,
         tt,

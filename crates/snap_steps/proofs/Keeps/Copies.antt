@@ -68,9 +68,9 @@ use Rattle.snap_stamp.specs.declared.side.Side.TheVariants as sides
 use mathlib.Core.Option as maybe
 
 -- a row that a pass knows to be of an earlier epoch is shared
-pub shared_is : (s : Table) (v : View) (r : ℕ) → AreLasting s v.lasting → ((e : ℕ) → 0 < times e v.present → e ≡ s.epoch) → ¬ In 0 s.linked → IsOlder v r → IsShared s r × In r s.linked
+pub shared_is : (s : Table) (v : View) (r : ℕ) → AreLasting s v.words.lasting → ((e : ℕ) → 0 < times e v.words.present → e ≡ s.epoch) → ¬ In 0 s.linked → IsOlder v r → IsShared s r × In r s.linked
 shared_is s v r lasting present no_zero h =
-    let birth : IsLasting s (fact r Birth h.birth) = lasting_is s v.lasting r Birth h.birth lasting h.is_birth in
+    let birth : IsLasting s (fact r Birth h.birth) = lasting_is s v.words.lasting r Birth h.birth lasting h.is_birth in
     let was : In r s.linked = times_in r s.linked birth.linked in
     (record { is_row = dite (ℕ_discrete r 0) (λ z. absurd (no_zero (subst (λ (x : ℕ). In x s.linked) z was))) (λ nz. omega arith); older = omega (arith, birth.word, h.older, present h.epoch h.now) }, was)
 
@@ -79,15 +79,15 @@ pub loads_shared : (about : About) (slots id : ℕ) (me : Sat) (r : ℕ) (f : Fi
 loads_shared about slots id me r f low no_lock older s k wide at small =
     let v : View = me.0 in let x : ℕ = get_or s.words (word_at r f) 0 in let is : x ≡ field f (row k.m.rows r) = cell_is k.memory r f low in let known = k.known id v at in
     let seen = k.history.seen id v at in let st : Table = state_of k.m k.g in
-    let shared = shared_is st v r (k.lasting id v at) (λ e now. all_are k.m.epoch e v.present (k.present id v at).0 now) k.table.links.no_zero older in
-    let facts : KnowsRows k.m.rows (learnt v r f x) = cond_both (nat_lt 0 (times r v.holds)) (fact r f x ∷ v.knows) v.knows (λ l. AreFacts k.m.rows v.holds l) (λ held. (sym is, grind (arith, nat_tests), known)) (λ not. known) in
-    let worn : KnowsWorn st (learnt v r f x) = λ saw. ⊎_elim (k.worn id v at) (last_found about s.words s.views k r f x (sym is)) (or_cases v.worn (is_last f x) saw) in
+    let shared = shared_is st v r (k.lasting id v at) (λ e now. all_are k.m.epoch e v.words.present (k.present id v at).0 now) k.table.links.no_zero older in
+    let facts : KnowsRows k.m.rows (learnt v r f x) = cond_both (nat_lt 0 (times r v.holds)) (fact r f x ∷ v.words.knows) v.words.knows (λ l. AreFacts k.m.rows v.holds l) (λ held. (sym is, grind (arith, nat_tests), known)) (λ not. known) in
+    let worn : KnowsWorn st (learnt v r f x) = λ saw. ⊎_elim (k.worn id v at) (last_found about s.words s.views k r f x (sym is)) (or_cases v.noted.worn (is_last f x) saw) in
     let new : IsLasting st (fact r f x) = record { linked = in_times r k.g.linked shared.1; word = word_is k.m k.g r f ∙ sym is; lasts = inr (shared.0, no_lock) } in (
       learnt v r f x,
       keeps,
       tt,
       seeing about s.words s.views k (word_at r f) id v (learnt v r f x) at facts
-          (in_append k.g.linked v.reached (led_to v r f x) (k.reached id v at) (led_in k.m k.g v r f x k.table (k.reached id v at) (sym is))) (k.ways id v at) (k.places id v at) (k.present id v at)
+          (in_append k.g.linked v.trail.reached (led_to v r f x) (k.reached id v at) (led_in k.m k.g v r f x k.table (k.reached id v at) (sym is))) (k.ways id v at) (k.places id v at) (k.present id v at)
           (k.notes id v at) worn (new, k.lasting id v at) (begins_itself v.seen) seen.0 seen.1,
       λ r' f' same. let t = one_word r r' f f' same in (λ i. (learnt v (t.0 i) (t.1 i) x, me.1)),
     )
@@ -106,17 +106,17 @@ links_copy about slots id me key parent d child copy low writing place older fil
     let w : View = copied v key parent f copy in
     let is_lock : f ≢ Lock = no_lock d in
     let known = k.known id v at in let wrote = k.apart.wrote id v at in let lasting = k.lasting id v at in
-    let present : (e : ℕ) → 0 < times e v.present → e ≡ k.m.epoch = λ e now. all_are k.m.epoch e v.present (k.present id v at).0 now in
+    let present : (e : ℕ) → 0 < times e v.words.present → e ≡ k.m.epoch = λ e now. all_are k.m.epoch e v.words.present (k.present id v at).0 now in
     let shared = shared_is st v child lasting present k.table.links.no_zero older in
-    let child_link : st.link parent d ≡ child = known_is k.m.rows v.holds v.knows parent f child known above.child_is in
-    let linked_parent : parent ≢ 0 → In parent k.g.linked = λ nz. in_of k.g.linked v.reached parent (k.reached id v at) (is_live v parent nz above.live).0 in
+    let child_link : st.link parent d ≡ child = known_is k.m.rows v.holds v.words.knows parent f child known above.child_is in
+    let linked_parent : parent ≢ 0 → In parent k.g.linked = λ nz. in_of k.g.linked v.trail.reached parent (k.reached id v at) (is_live v parent nz above.live).0 in
     let live : parent ≢ 0 → IsLive st parent = λ nz. born_live st k.m.rows k.m.epoch v parent k.table refl refl refl known (k.present id v at).0 (linked_parent nz) (is_live v parent nz above.live).1 in
     let own = k.apart.own id v at copy filled.own in
     let pos : 0 < copy = dite (ℕ_discrete copy 0) (λ z. absurd (omega (arith, own.1, ap (λ (y : ℕ). times y v.drawn) z, k.drawn.none_zero, term_le (times_drawn 0) s.views id v at))) (λ nz. omega arith) in
     let fresh = k.apart.fresh copy pos own.0 in
     let unlocked : (j : ℕ) (u : View) → get_elem? s.views j ≡ some u → times copy u.holds ≡ 0 = λ j u there. omega (arith, term_le (λ y. times copy y.holds) s.views j u there, k.locked.count copy, ap is_taken fresh.0) in
-    let ours : (h : Field) (y : ℕ) → IsKnown v.wrote copy h y → field h (row k.m.rows copy) ≡ y = λ h y. known_is k.m.rows v.own v.wrote copy h y wrote in
-    let same : (h : Field) → HasWord v copy child h → field h (row k.m.rows copy) ≡ field h (row k.m.rows child) = λ h q. ours h q.word q.ours ∙ sym (lasting_is st v.lasting child h q.word lasting q.theirs).word ∙ word_is k.m k.g child h in
+    let ours : (h : Field) (y : ℕ) → IsKnown v.fresh.wrote copy h y → field h (row k.m.rows copy) ≡ y = λ h y. known_is k.m.rows v.fresh.own v.fresh.wrote copy h y wrote in
+    let same : (h : Field) → HasWord v copy child h → field h (row k.m.rows copy) ≡ field h (row k.m.rows child) = λ h q. ours h q.word q.ours ∙ sym (lasting_is st v.words.lasting child h q.word lasting q.theirs).word ∙ word_is k.m k.g child h in
     let may : MayLinkCopy st parent d child copy = record {
       writing = some_write s.views id v k.g.writers at k.writers (ap in_write writing.2);
       parent_live = parent_is st above.live live;
@@ -147,9 +147,9 @@ links_copy about slots id me key parent d child copy low writing place older fil
           (λ n c. absurd (subst (λ z. Concerns z n) whole c))
           (λ j u ne there n c. ((λ q. omega (arith, k.held j u there n c, others_apart s.views id v at k.m.rows parent k.locked above.held j u ne there, ap (λ (i : ℕ). times i u.holds) q)), (λ q. omega (arith, k.held j u there n c, unlocked j u there, ap (λ (i : ℕ). times i u.holds) q))))
           (locks_stay s.views id v at k.m.rows parent x w k.locked (field_other Lock f copy (row k.m.rows parent) (λ z. is_lock (sym z))) near refl refl refl)
-          (each_others s.views id v at w (λ j u ne there. facts_elsewhere k.m.rows parent x u.holds u.holds u.knows (k.known j u there) (others_apart s.views id v at k.m.rows parent k.locked above.held j u ne there) (λ y. omega arith))
-          (ap (field f) (row_same k.m.rows parent x near) ∙ field_same f copy (row k.m.rows parent), above.held, facts_left k.m.rows parent f copy v.holds v.knows near known))
-          (in_times copy (copy ∷ k.g.linked) (inl refl), all_linked_grows k.g.linked (copy ∷ k.g.linked) (λ r h. inr h) v.reached (k.reached id v at))
+          (each_others s.views id v at w (λ j u ne there. facts_elsewhere k.m.rows parent x u.holds u.holds u.words.knows (k.known j u there) (others_apart s.views id v at k.m.rows parent k.locked above.held j u ne there) (λ y. omega arith))
+          (ap (field f) (row_same k.m.rows parent x near) ∙ field_same f copy (row k.m.rows parent), above.held, facts_left k.m.rows parent f copy v.holds v.words.knows near known))
+          (in_times copy (copy ∷ k.g.linked) (inl refl), all_linked_grows k.g.linked (copy ∷ k.g.linked) (λ r h. inr h) v.trail.reached (k.reached id v at))
           (apart_linked k id v w at parent copy x is_times filled.own refl refl refl)
           (marks_stay s.views id v w k.m.rows rows' at k.marked (stamps_same k.m.rows parent x near (link_stamp d copy (row k.m.rows parent))) refl) (
             (λ j u ne there n c. leaves_apart st s' n (moves.0.2 n ((λ q. omega (arith, c, others_apart s.views id v at k.m.rows parent k.locked above.held j u ne there, ap (λ (i : ℕ). times i u.holds) q)), (λ q. omega (arith, c, unlocked j u there, ap (λ (i : ℕ). times i u.holds) q))))
@@ -161,7 +161,7 @@ links_copy about slots id me key parent d child copy low writing place older fil
       λ parent' d' word. let t = one_word parent parent' (link_field d) (link_field d') word in (λ i. (copied v key (t.0 i) (t.1 i) copy, me.1)),
     )
   where
-    is_live : (v : View) (n : ℕ) → n ≢ 0 → ((n ≡ 0) × (d ≡ sides.Right)) ⊎ ((0 < times n v.reached) × IsBorn v n) → (0 < times n v.reached) × IsBorn v n
+    is_live : (v : View) (n : ℕ) → n ≢ 0 → ((n ≡ 0) × (d ≡ sides.Right)) ⊎ ((0 < times n v.trail.reached) × IsBorn v n) → (0 < times n v.trail.reached) × IsBorn v n
     is_live v n nz (inl z) = absurd (nz z.0)
     is_live v n nz (inr h) = h
 
@@ -169,9 +169,9 @@ links_copy about slots id me key parent d child copy low writing place older fil
     both F G l r sides.Left = l
     both F G l r sides.Right = r
 
-    no_zero : parent ≡ 0 → 0 < times parent me.0.reached → ⊥
-    no_zero z h = let was = in_of k.g.linked me.0.reached parent (k.reached id me.0 at) h in k.table.links.no_zero (subst (λ (n : ℕ). In n k.g.linked) z was)
+    no_zero : parent ≡ 0 → 0 < times parent me.0.trail.reached → ⊥
+    no_zero z h = let was = in_of k.g.linked me.0.trail.reached parent (k.reached id me.0 at) h in k.table.links.no_zero (subst (λ (n : ℕ). In n k.g.linked) z was)
 
-    parent_is : (t : Table) → ((parent ≡ 0) × (d ≡ sides.Right)) ⊎ ((0 < times parent me.0.reached) × IsBorn me.0 parent) → (parent ≢ 0 → IsLive t parent) → IsParent t parent d
+    parent_is : (t : Table) → ((parent ≡ 0) × (d ≡ sides.Right)) ⊎ ((0 < times parent me.0.trail.reached) × IsBorn me.0 parent) → (parent ≢ 0 → IsLive t parent) → IsParent t parent d
     parent_is t (inl z) live = inl z
     parent_is t (inr h) live = dite (ℕ_discrete parent 0) (λ z. absurd (no_zero z h.0)) (λ nz. inr (live nz))

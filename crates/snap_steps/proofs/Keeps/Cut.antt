@@ -174,11 +174,11 @@ cuts about slots id me gate passing alone closing s k wide at small =
         doing = each_stays views id v w at (λ u. DoingOk s' u.doing) (doings_stay st s' views k.doing (λ j u there n x. absurd (omega (arith, k.held j u there n x, free j u there n)))) (λ p. p);
         held = each_stays views id v w at HoldsIts k.held (λ p. p);
         present = each_others views id v at w (λ j u ne there. no_epochs u (idle j u there) (k.present j u there)) (no_epochs w a' ((k.present id v at).0, (λ _. (k.present id v at).1 a)));
-        reached = each_stays views id v w at (λ u. AllLinked k.g.linked u.reached) k.reached (λ p. p);
+        reached = each_stays views id v w at (λ u. AllLinked k.g.linked u.trail.reached) k.reached (λ p. p);
         ways = each_set {P = IsOnWay s'} {Q = IsOnWay s'} views id w (ways_evolve st s' views ev k.history.seen k.ways) (λ u p. p) tt;
         places = each_stays views id v w at (KnowsPlace s') (places_evolve st s' views ev k.places) (λ p. p);
         worn = each_stays views id v w at (KnowsWorn s') (worns_evolve st s' views ev k.worn) (λ p. p);
-        lasting = each_stays views id v w at (λ u. AreLasting s' u.lasting) (lastings_evolve st s' views ev k.lasting) (λ p. p);
+        lasting = each_stays views id v w at (λ u. AreLasting s' u.words.lasting) (lastings_evolve st s' views ev k.lasting) (λ p. p);
         based = each_others views id v at w (λ j u ne there. bases_evolve about s.words views k s' ev (λ _. refl) j u there) (base, λ _. (ap is_quiet stage, top, refl));
         tries = each_stays views id v w at (KnowsTry s') (tries_evolve st s' views ev k.tries) (λ p. p);
         heights = each_stays views id v w at (λ u. AreHeights s' u.holds u.heights) (λ j u there. no_heights st s' u.holds u.heights (free j u there) (k.heights j u there)) (λ p. p);

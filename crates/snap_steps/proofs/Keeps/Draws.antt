@@ -57,7 +57,7 @@ draws about slots id me found said room passing s k wide at small =
     let G : ℕ → Type 0 = λ x. (w : View) × (a : Act (Unit {0})) × Valid s.homes me.1 a × Rule about (stepped s 0 x id me.1 w a) × drawing_tried (step slots 0 found (found + 1) said) me r (w, carried_after me.1 a) in
     exchanged r found (found + 1) G
     (λ hit. let w : View = drew me.0 (found + 1) in let here' : k.m.next + 1 ≡ found + 1 = omega arith in
-    let own_more : (r : ℕ) → 0 < times r w.own → IsOwn k.g.linked me.0 → (times r k.g.linked ≡ 0) × (0 < times r w.drawn) = λ r l p. dite (ℕ_discrete r (found + 1))
+    let own_more : (r : ℕ) → 0 < times r w.fresh.own → IsOwn k.g.linked me.0 → (times r k.g.linked ≡ 0) × (0 < times r w.drawn) = λ r l p. dite (ℕ_discrete r (found + 1))
     (λ e. (dite (ℕ_discrete (times r k.g.linked) 0) (λ z. z) (λ nz. let low = k.apart.low r (omega arith) in absurd (omega (arith, low.1))), omega (arith, times-append r me.0.drawn ((found + 1) ∷ []), one_same r (found + 1) e)))
     (λ ne. let q = p r (omega (arith, l, one_other r (found + 1) ne)) in (q.0, omega (arith, q.1, times-append r me.0.drawn ((found + 1) ∷ [])))) in let here : k.m.next ≡ found = omega arith in (
       w,
@@ -74,14 +74,14 @@ draws about slots id me found said room passing s k wide at small =
         doing = each_stays s.views id me.0 w at (λ u. DoingOk (state_of k.m k.g) u.doing) k.doing (λ p. p);
         held = each_stays s.views id me.0 w at HoldsIts k.held (λ p. p);
         present = each_stays s.views id me.0 w at (KnowsEpoch k.m.epoch) k.present (λ p. p);
-        apart = subst (λ n. AreApart n k.m.rows k.g.linked (set s.views id w)) here' (apart_stays s.views id me.0 w at k.m.next (k.m.next + 1) k.m.rows k.g.linked k.apart (omega arith) (λ p r l. own_more r l p) (λ p. facts_more k.m.rows (found + 1) me.0.own me.0.wrote p));
+        apart = subst (λ n. AreApart n k.m.rows k.g.linked (set s.views id w)) here' (apart_stays s.views id me.0 w at k.m.next (k.m.next + 1) k.m.rows k.g.linked k.apart (omega arith) (λ p r l. own_more r l p) (λ p. facts_more k.m.rows (found + 1) me.0.fresh.own me.0.fresh.wrote p));
         locked = locked_stays s.views id me.0 w at k.m.rows k.locked refl refl (k.locked.writing id me.0 at);
         known = each_stays s.views id me.0 w at (KnowsRows k.m.rows) k.known (λ p. p);
-        reached = each_stays s.views id me.0 w at (λ u. AllLinked k.g.linked u.reached) k.reached (λ p. p);
+        reached = each_stays s.views id me.0 w at (λ u. AllLinked k.g.linked u.trail.reached) k.reached (λ p. p);
         ways = each_stays s.views id me.0 w at (IsOnWay (state_of k.m k.g)) k.ways (λ p. p);
         places = each_stays s.views id me.0 w at (KnowsPlace (state_of k.m k.g)) k.places (λ p. p);
         worn = each_stays s.views id me.0 w at (KnowsWorn (state_of k.m k.g)) k.worn (λ p. p);
-        lasting = each_stays s.views id me.0 w at (λ u. AreLasting (state_of k.m k.g) u.lasting) k.lasting (λ p. p);
+        lasting = each_stays s.views id me.0 w at (λ u. AreLasting (state_of k.m k.g) u.words.lasting) k.lasting (λ p. p);
         based = each_stays s.views id me.0 w at (KnowsBase (state_of k.m k.g)) k.based (λ p. p);
         tries = each_stays s.views id me.0 w at (KnowsTry (state_of k.m k.g)) k.tries (λ p. p);
         heights = each_stays s.views id me.0 w at (λ u. AreHeights (state_of k.m k.g) u.holds u.heights) k.heights (λ p. p);

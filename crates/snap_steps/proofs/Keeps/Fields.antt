@@ -71,19 +71,19 @@ reads about slots id me r f low passing s k wide at small =
     let v : View = me.0 in let found : ℕ = get_or s.words (word_at r f) 0 in let is : found ≡ field f (row k.m.rows r) = cell_is k.memory r f low in
     let w : View = read v r f found in let seen = k.history.seen id v at in let known = k.known id v at in
     let led : AllLinked k.g.linked (led_to v r f found) = led_in k.m k.g v r f found k.table (k.reached id v at) (sym is) in let room = k.memory.room in let rows_are = (k.about_known id v at (ap is_live passing)).0 in
-    let worn : KnowsWorn (state_of k.m k.g) w = λ saw. ⊎_elim (k.worn id v at) (last_found about s.words s.views k r f found (sym is)) (or_cases v.worn (is_last f found) saw) in
-    let facts : KnowsRows k.m.rows w = cond_both (nat_lt 0 (times r v.holds)) (fact r f found ∷ v.knows) v.knows (λ l. AreFacts k.m.rows v.holds l) (λ held. (sym is, grind (arith, nat_tests), known)) (λ not. known) in (
+    let worn : KnowsWorn (state_of k.m k.g) w = λ saw. ⊎_elim (k.worn id v at) (last_found about s.words s.views k r f found (sym is)) (or_cases v.noted.worn (is_last f found) saw) in
+    let facts : KnowsRows k.m.rows w = cond_both (nat_lt 0 (times r v.holds)) (fact r f found ∷ v.words.knows) v.words.knows (λ l. AreFacts k.m.rows v.holds l) (λ held. (sym is, grind (arith, nat_tests), known)) (λ not. known) in (
       w,
       keeps,
       tt,
       seeing about s.words s.views k (word_at r f) id v w at facts
-          (in_append k.g.linked v.reached (led_to v r f found) (k.reached id v at) led) (k.ways id v at) (k.places id v at) (k.present id v at)
+          (in_append k.g.linked v.trail.reached (led_to v r f found) (k.reached id v at) led) (k.ways id v at) (k.places id v at) (k.present id v at)
           (k.notes id v at) worn (k.lasting id v at) (begins_itself v.seen) seen.0 seen.1,
-      λ r' f' same. let t = one_word r r' f f' same in ((λ i. (read v (t.0 i) (t.1 i) found, me.1)), λ x there. is ∙ (λ i. field (t.1 i) (row k.m.rows (t.0 i))) ∙ known_is k.m.rows v.holds v.knows r' f' x known there, λ c there. let far = (k.apart.low c (in_times c k.g.linked (in_of k.g.linked (led_to v r f found) c led (subst (λ (l : List ℕ). 0 < times c l) (λ i. led_to v (sym t.0 i) (sym t.1 i) found) there)))).1 in omega (arith, far, room, rows_are)),
+      λ r' f' same. let t = one_word r r' f f' same in ((λ i. (read v (t.0 i) (t.1 i) found, me.1)), λ x there. is ∙ (λ i. field (t.1 i) (row k.m.rows (t.0 i))) ∙ known_is k.m.rows v.holds v.words.knows r' f' x known there, λ c there. let far = (k.apart.low c (in_times c k.g.linked (in_of k.g.linked (led_to v r f found) c led (subst (λ (l : List ℕ). 0 < times c l) (λ i. led_to v (sym t.0 i) (sym t.1 i) found) there)))).1 in omega (arith, far, room, rows_are)),
     )
 
 -- `store_own`
-pub stores_own : (about : About) (slots id : ℕ) (me : Sat) (r new : ℕ) (f : Field) → r ≤ about.rows → f ≢ Lock → f ≢ Stamp → 0 < times r me.0.own → Allows (Rule about) slots id me (word_at r f) (λ _. new) (λ _. stored_own r f (step slots (word_at r f) new 0 maybe.none) me new)
+pub stores_own : (about : About) (slots id : ℕ) (me : Sat) (r new : ℕ) (f : Field) → r ≤ about.rows → f ≢ Lock → f ≢ Stamp → 0 < times r me.0.fresh.own → Allows (Rule about) slots id me (word_at r f) (λ _. new) (λ _. stored_own r f (step slots (word_at r f) new 0 maybe.none) me new)
 stores_own about slots id me r new f low no_lock no_stamp mine s k wide at small =
     let v : View = me.0 in let w : View = own_stored v r f new in let rows_wide = k.memory.wide in let x : Row = with_field f new (row k.m.rows r) in let near : r < length k.m.rows = omega arith in
     let own = k.apart.own id v at r mine in
@@ -109,18 +109,18 @@ stores_own about slots id me r new f low no_lock no_stamp mine s k wide at small
         gated = gated_stays s.views id v w at k.m.gate k.m.left k.gated refl;
         used = used_stays s.views id v w at k.m.gate k.m.epoch k.used refl refl refl refl refl;
         locked = locks_stay s.views id v at k.m.rows r x w k.locked lock near refl refl refl;
-        known = each_others s.views id v at w (λ j u ne there. facts_elsewhere k.m.rows r x u.holds u.holds u.knows (k.known j u there) (apart j u there) (λ y. omega arith)) (facts_elsewhere k.m.rows r x v.holds v.holds v.knows (k.known id v at) (apart id v at) (λ y. omega arith));
+        known = each_others s.views id v at w (λ j u ne there. facts_elsewhere k.m.rows r x u.holds u.holds u.words.knows (k.known j u there) (apart j u there) (λ y. omega arith)) (facts_elsewhere k.m.rows r x v.holds v.holds v.words.knows (k.known id v at) (apart id v at) (λ y. omega arith));
         table = moves.1;
         writers = omega (arith, k.writers, total-set (λ u. in_write u.stage) s.views id v w at);
         changes = λ y d none. k.changes y d (omega (arith, none, total-set (λ u. changing y d u.doing) s.views id v w at));
         doing = each_stays s.views id v w at (λ u. DoingOk (state_of (record k.m { rows = changed k.m.rows r f new }) k.g) u.doing) (doings_stay (state_of k.m k.g) (state_of (record k.m { rows = changed k.m.rows r f new }) k.g) s.views k.doing (λ j u there y c. moves.2 y (λ e. omega (arith, k.held j u there y c, apart j u there, ap (λ (i : ℕ). times i u.holds) e)))) (λ p. p);
         held = each_stays s.views id v w at HoldsIts k.held (λ p. p);
         present = each_stays s.views id v w at (KnowsEpoch k.m.epoch) k.present (λ p. p);
-        reached = each_stays s.views id v w at (λ u. AllLinked k.g.linked u.reached) k.reached (λ p. p);
+        reached = each_stays s.views id v w at (λ u. AllLinked k.g.linked u.trail.reached) k.reached (λ p. p);
         ways = each_stays s.views id v w at (IsOnWay (state_of (record k.m { rows = changed k.m.rows r f new }) k.g)) (ways_evolve (state_of k.m k.g) (state_of (record k.m { rows = changed k.m.rows r f new }) k.g) s.views moves.0 k.history.seen k.ways) (λ p. p);
         places = each_stays s.views id v w at (KnowsPlace (state_of (record k.m { rows = changed k.m.rows r f new }) k.g)) (places_evolve (state_of k.m k.g) (state_of (record k.m { rows = changed k.m.rows r f new }) k.g) s.views moves.0 k.places) (λ p. p);
         worn = each_stays s.views id v w at (KnowsWorn (state_of (record k.m { rows = changed k.m.rows r f new }) k.g)) (worns_evolve (state_of k.m k.g) (state_of (record k.m { rows = changed k.m.rows r f new }) k.g) s.views moves.0 k.worn) (λ p. p);
-        lasting = each_stays s.views id v w at (λ u. AreLasting (state_of (record k.m { rows = changed k.m.rows r f new }) k.g) u.lasting) (lastings_evolve (state_of k.m k.g) (state_of (record k.m { rows = changed k.m.rows r f new }) k.g) s.views moves.0 k.lasting) (λ p. p);
+        lasting = each_stays s.views id v w at (λ u. AreLasting (state_of (record k.m { rows = changed k.m.rows r f new }) k.g) u.words.lasting) (lastings_evolve (state_of k.m k.g) (state_of (record k.m { rows = changed k.m.rows r f new }) k.g) s.views moves.0 k.lasting) (λ p. p);
         based = each_stays s.views id v w at (KnowsBase (state_of (record k.m { rows = changed k.m.rows r f new }) k.g)) (bases_evolve about s.words s.views k (state_of (record k.m { rows = changed k.m.rows r f new }) k.g) moves.0 (λ _. refl)) (λ p. p);
         tries = each_stays s.views id v w at (KnowsTry (state_of (record k.m { rows = changed k.m.rows r f new }) k.g)) (tries_evolve (state_of k.m k.g) (state_of (record k.m { rows = changed k.m.rows r f new }) k.g) s.views moves.0 k.tries) (λ p. p);
         heights = each_stays s.views id v w at (λ u. AreHeights s' u.holds u.heights) (heights_evolve (state_of k.m k.g) s' s.views (λ j u there y held. ((moves.2 y (λ e. omega (arith, held, apart j u there, ap (λ (i : ℕ). times i u.holds) e))).live, all_moves.2 y)) k.heights) (λ p. p);
@@ -136,8 +136,8 @@ stores_own about slots id me r new f low no_lock no_stamp mine s k wide at small
               (λ e. let q = ap (λ (i : ℕ). row (changed k.m.rows r f new) i) e ∙ row_same k.m.rows r x near in (ap (λ (o : Row). o.lock) q ∙ lock ∙ free, ap (λ (o : Row). o.stamp) q ∙ still ∙ (k.apart.fresh r pos own.0).1))
               (λ ne. let q = row_other k.m.rows r y x ne in let h = k.apart.fresh y above z in (ap (λ (o : Row). o.lock) q ∙ h.0, ap (λ (o : Row). o.stamp) q ∙ h.1));
           wrote = each_others s.views id v at w
-              (λ j u ne there. facts_elsewhere k.m.rows r x u.own u.own u.wrote (k.apart.wrote j u there) (not_theirs s.views id v u at j ne there r k.drawn own.1 (k.apart.own j u there r)) (λ y. omega arith))
-              (ap (field f) (row_same k.m.rows r x near) ∙ field_same f new (row k.m.rows r), mine, facts_left k.m.rows r f new v.own v.wrote near (k.apart.wrote id v at));
+              (λ j u ne there. facts_elsewhere k.m.rows r x u.fresh.own u.fresh.own u.fresh.wrote (k.apart.wrote j u there) (not_theirs s.views id v u at j ne there r k.drawn own.1 (k.apart.own j u there r)) (λ y. omega arith))
+              (ap (field f) (row_same k.m.rows r x near) ∙ field_same f new (row k.m.rows r), mine, facts_left k.m.rows r f new v.fresh.own v.fresh.wrote near (k.apart.wrote id v at));
         };
       },
       refl,

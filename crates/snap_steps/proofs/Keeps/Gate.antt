@@ -49,7 +49,7 @@ enters about slots id me found new said even up idle unused passing s k wide at 
       w,
       keeps,
       tt,
-      turning about s.words s.views k id v at (set s.words 1 new) (record k.m { gate = new }) v.notes v.handed v.epochs (Writing false false) (v.uses + 1) v.present [] no_debt Resting Resting (gate_set k.memory new) refl refl (k.notes id v at) (omega (arith, o)) (omega (arith, q)) refl (λ x. omega (arith, k.locked.writing id v at x, a)) ((k.present id v at).0, λ z. absurd (omega (arith, z)))
+      turning about s.words s.views k id v at (set s.words 1 new) (record k.m { gate = new }) v.noted.notes v.noted.handed v.noted.epochs (Writing false false) (v.uses + 1) v.words.present [] no_debt Resting Resting (gate_set k.memory new) refl refl (k.notes id v at) (omega (arith, o)) (omega (arith, q)) refl (λ x. omega (arith, k.locked.writing id v at x, a)) ((k.present id v at).0, λ z. absurd (omega (arith, z)))
           (gated_moves s.views id v w at k.m.gate k.m.left new k.m.left g (omega arith) (omega arith) (λ some. absurd (omega (arith, quiets_le (set s.views id w)))) (nobody_closes new (set s.views id w) none_closing))
           (used_moves s.views id v w at k.m.gate k.m.epoch new k.m.epoch k.used refl refl refl (omega arith) (omega (arith, ap (λ r. length (own_number r v.who)) passing))) (omega arith) (λ z. omega arith) (λ z. absurd (omega (arith, z, d))) (λ z. absurd (omega (arith, z)))
           (subst (DebtDoing (state_of k.m k.g) v.doing) ((k.debts id v at).1 a) (k.debts id v at).0, (λ _. refl), λ room ok. owed_none k id v at ((k.debts id v at).1 a) ok) (tt, tt),
@@ -69,7 +69,7 @@ closes about slots id me found new said even up idle unused passing s k wide at 
       w,
       keeps,
       tt,
-      turning about s.words s.views k id v at (set s.words 1 new) (record k.m { gate = new }) v.notes v.handed v.epochs (Closing new false false) (v.uses + 1) v.present v.copies v.debt v.reads v.place (gate_set k.memory new) refl refl (k.notes id v at) (omega (arith, o)) (omega (arith, q)) refl (λ x. omega (arith, k.locked.writing id v at x, a)) ((k.present id v at).0, λ _. (k.present id v at).1 a)
+      turning about s.words s.views k id v at (set s.words 1 new) (record k.m { gate = new }) v.noted.notes v.noted.handed v.noted.epochs (Closing new false false) (v.uses + 1) v.words.present v.fresh.copies v.debt v.way.reads v.way.place (gate_set k.memory new) refl refl (k.notes id v at) (omega (arith, o)) (omega (arith, q)) refl (λ x. omega (arith, k.locked.writing id v at x, a)) ((k.present id v at).0, λ _. (k.present id v at).1 a)
           (gated_moves s.views id v w at k.m.gate k.m.left new k.m.left g (omega arith) (omega arith) (λ some. absurd (omega (arith, quiets_le s.views, total-set (λ u. is_quiet u.stage) s.views id v w at)))
           (each_set s.views id w (nobody_closes new s.views none_before) (λ u p. p) refl))
           (used_moves s.views id v w at k.m.gate k.m.epoch new k.m.epoch k.used refl refl refl (omega arith) (omega (arith, ap (λ r. length (own_number r v.who)) passing))) (omega arith) (λ z. omega arith) (λ z. absurd (omega (arith, z, d))) (λ z. absurd (omega (arith, z)))
@@ -88,7 +88,7 @@ leaves about slots id me made counted writing settled free live owes s k wide at
       w,
       keeps,
       tt,
-      turning about s.words s.views k id v at (set s.words 2 new) (record k.m { left = new }) v.notes v.handed v.epochs Idle v.uses [] v.copies no_debt v.reads v.place (left_set k.memory new) refl refl (k.notes id v at) (omega (arith, o)) (omega (arith, q)) refl (λ x. subst (λ (h : List ℕ). times x h ≤ 0) (sym free) (omega arith)) (tt, λ _. refl)
+      turning about s.words s.views k id v at (set s.words 2 new) (record k.m { left = new }) v.noted.notes v.noted.handed v.noted.epochs Idle v.uses [] v.fresh.copies no_debt v.way.reads v.way.place (left_set k.memory new) refl refl (k.notes id v at) (omega (arith, o)) (omega (arith, q)) refl (λ x. subst (λ (h : List ℕ). times x h ≤ 0) (sym free) (omega arith)) (tt, λ _. refl)
           (gated_moves s.views id v w at k.m.gate k.m.left k.m.gate new g (omega arith) (omega arith) (λ some. absurd (omega (arith, g.quiet (omega (arith, total-set (λ u. is_quiet u.stage) s.views id v w at)))))
           (each_stays s.views id v w at (λ u. IsAt k.m.gate u.stage) g.at (λ p. tt)))
           (used_moves s.views id v w at k.m.gate k.m.epoch k.m.gate k.m.epoch k.used refl refl refl (omega arith) (k.used.few id v at).0) (omega arith) (λ z. omega arith) (λ _. refl) (λ z. absurd (omega (arith, z)))
@@ -108,7 +108,7 @@ opens about slots id me gate quiet cut closing s k wide at small =
       w,
       keeps,
       tt,
-      turning about s.words s.views k id v at (set s.words 1 new) (record k.m { gate = new }) v.notes v.handed v.epochs Idle v.uses [] v.copies no_debt v.reads v.place (gate_set k.memory new) refl refl (k.notes id v at) (omega (arith, o)) (omega (arith, q)) refl (λ x. omega (arith, k.locked.writing id v at x, a)) (tt, λ _. refl)
+      turning about s.words s.views k id v at (set s.words 1 new) (record k.m { gate = new }) v.noted.notes v.noted.handed v.noted.epochs Idle v.uses [] v.fresh.copies no_debt v.way.reads v.way.place (gate_set k.memory new) refl refl (k.notes id v at) (omega (arith, o)) (omega (arith, q)) refl (λ x. omega (arith, k.locked.writing id v at x, a)) (tt, λ _. refl)
           (gated_moves s.views id v w at k.m.gate k.m.left new k.m.left g (omega arith) (omega arith) (λ some. absurd (omega (arith, quiets_le (set s.views id w)))) (nobody_closes new (set s.views id w) none_closing))
           (used_moves s.views id v w at k.m.gate k.m.epoch new k.m.epoch k.used refl refl refl (omega arith) (k.used.few id v at).0) (omega arith) (λ z. omega arith) (λ _. refl) (λ z. absurd (omega (arith, z)))
           (subst (DebtDoing (state_of k.m k.g) v.doing) ((k.debts id v at).1 a) (k.debts id v at).0, (λ _. refl), λ room ok. owed_none k id v at ((k.debts id v at).1 a) ok) (k.ways id v at, k.places id v at),

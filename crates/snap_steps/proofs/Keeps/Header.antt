@@ -57,7 +57,7 @@ loads_left about slots id me s k wide at small =
       w,
       keeps,
       tt,
-      turning about s.words s.views k id v at (set s.words 2 r) k.m (v.notes ++ Left r ∷ []) v.handed v.epochs (after_left v.stage r) v.uses v.present v.copies v.debt v.reads v.place (loaded k.memory 2) refl refl (header_more k.m.next k.m.epoch v (Left r) (k.notes id v at) tt) (omega (arith, same.3)) (omega (arith, same.4)) refl (λ x. omega (arith, k.locked.writing id v at x, same.0)) ((k.present id v at).0, λ z. (k.present id v at).1 (omega (arith, same.0, z)))
+      turning about s.words s.views k id v at (set s.words 2 r) k.m (v.noted.notes ++ Left r ∷ []) v.noted.handed v.noted.epochs (after_left v.stage r) v.uses v.words.present v.fresh.copies v.debt v.way.reads v.way.place (loaded k.memory 2) refl refl (header_more k.m.next k.m.epoch v (Left r) (k.notes id v at) tt) (omega (arith, same.3)) (omega (arith, same.4)) refl (λ x. omega (arith, k.locked.writing id v at x, same.0)) ((k.present id v at).0, λ z. (k.present id v at).1 (omega (arith, same.0, z)))
           (gated_moves s.views id v w at k.m.gate k.m.left k.m.gate k.m.left g (omega (arith, same.0, same.1)) (omega (arith, same.1, one)) (λ some. omega (arith, none_writes some, same.0))
           (each_stays s.views id v w at (λ u. IsAt k.m.gate u.stage) g.at (λ p. after_left_at k.m.gate v.stage r p)))
           (used_moves s.views id v w at k.m.gate k.m.epoch k.m.gate k.m.epoch k.used refl refl refl (omega (arith, same.2)) (k.used.few id v at).0) (omega arith) (λ z. omega (arith, same.0)) (λ z. ap (λ st. after_left st r) (k.acting id v at z).0) (left_cut v.stage r)
@@ -82,6 +82,6 @@ loads_epoch about slots id me s k wide at small =
       w,
       keeps,
       tt,
-      seeing about s.words s.views k 4 id v w at (k.known id v at) (k.reached id v at) (k.ways id v at) (k.places id v at) (epoch_with v.stage k.m.epoch r v.present is (k.present id v at)) (header_more k.m.next k.m.epoch v (Epoch r) (k.notes id v at) (omega arith)) (k.worn id v at) (k.lasting id v at) (begins_itself v.seen) seen.0 seen.1,
-      (refl, refl, λ e some. is ∙ sym (all_are k.m.epoch e v.present (k.present id v at).0 some)),
+      seeing about s.words s.views k 4 id v w at (k.known id v at) (k.reached id v at) (k.ways id v at) (k.places id v at) (epoch_with v.stage k.m.epoch r v.words.present is (k.present id v at)) (header_more k.m.next k.m.epoch v (Epoch r) (k.notes id v at) (omega arith)) (k.worn id v at) (k.lasting id v at) (begins_itself v.seen) seen.0 seen.1,
+      (refl, refl, λ e some. is ∙ sym (all_are k.m.epoch e v.words.present (k.present id v at).0 some)),
     )

@@ -120,12 +120,12 @@ links_leaf about slots id me r key value parent f low small_key passing writing 
     let x : Row = with_field f r (row k.m.rows parent) in let rows' : List Row = changed k.m.rows parent f r in
     let is_lock : f ≢ Lock = λ e. no_lock d (sym place.by_side ∙ e) in
     let known = k.known id v at in let wrote = k.apart.wrote id v at in
-    let way : PointOk st v.seen key (Standing parent place.stamp d) = standing_at st v.seen key parent place.stamp d v.reads (k.ways id v at) place.way in
-    let stamp : st.stamp parent ≡ place.stamp = known_is k.m.rows v.holds v.knows parent Stamp place.stamp known place.still in
+    let way : PointOk st v.seen key (Standing parent place.stamp d) = standing_at st v.seen key parent place.stamp d v.way.reads (k.ways id v at) place.way in
+    let stamp : st.stamp parent ≡ place.stamp = known_is k.m.rows v.holds v.words.knows parent Stamp place.stamp known place.still in
     let linked_parent : parent ≢ 0 → In parent k.g.linked = λ nz. is_in (state_of k.m k.g) parent nz way.stamp.reached in
     let live : parent ≢ 0 → IsLive st parent = λ nz. born_live st k.m.rows k.m.epoch v parent k.table refl refl refl known (k.present id v at).0 (linked_parent nz) (is_born v parent nz place.live) in
     let under = below st v.seen key parent d way.faces (way.placed stamp) live in
-    let none : st.link parent d ≡ 0 = ap (λ (y : Field). field y (row k.m.rows parent)) (sym place.by_side) ∙ known_is k.m.rows v.holds v.knows parent f 0 known place.none in
+    let none : st.link parent d ≡ 0 = ap (λ (y : Field). field y (row k.m.rows parent)) (sym place.by_side) ∙ known_is k.m.rows v.holds v.words.knows parent f 0 known place.none in
     let own = k.apart.own id v at r leaf.own in
     let pos : 0 < r = dite (ℕ_discrete r 0) (λ z. absurd (omega (arith, own.1, ap (λ (y : ℕ). times y v.drawn) z, k.drawn.none_zero, term_le (times_drawn 0) s.views id v at))) (λ nz. omega arith) in
     let drawn_once = term_le (times_drawn r) s.views id v at in
@@ -139,7 +139,7 @@ links_leaf about slots id me r key value parent f low small_key passing writing 
     let clear : (j : ℕ) (u : View) → get_elem? s.views j ≡ some u → (n : ℕ) → Concerns u.doing n → (n ≢ parent) × (n ≢ r) = λ j u there n c. dite (ℕ_discrete j id)
     (λ same. let own_view : u ≡ v = some-injective u v (sym there ∙ ap (get_elem? s.views) same ∙ at) in absurd (subst (λ z. Concerns z n) (ap (λ (z : View). z.doing) own_view ∙ whole) c))
     (λ ne. ((λ q. omega (arith, k.held j u there n c, others_apart s.views id v at k.m.rows parent k.locked place.held j u ne there, ap (λ (i : ℕ). times i u.holds) q)), (λ q. omega (arith, k.held j u there n c, unlocked j u there, ap (λ (i : ℕ). times i u.holds) q)))) in
-    let word : (h : Field) (y : ℕ) → Rattle.snap_steps.specs.Facts.IsKnown v.wrote r h y → field h (row k.m.rows r) ≡ y = λ h y. known_is k.m.rows v.own v.wrote r h y wrote in
+    let word : (h : Field) (y : ℕ) → Rattle.snap_steps.specs.Facts.IsKnown v.fresh.wrote r h y → field h (row k.m.rows r) ≡ y = λ h y. known_is k.m.rows v.fresh.own v.fresh.wrote r h y wrote in
     let e : Entry = entry v.who (Put key value) None in let w : View = hung v k.g.history e parent f r in
     let may : entry_kinds.MayLinkLeaf st parent d r e = record {
       writing = some_write s.views id v k.g.writers at k.writers (ap in_write writing);
@@ -155,7 +155,7 @@ links_leaf about slots id me r key value parent f low small_key passing writing 
       value = word Value (suc value) leaf.value;
       height = word Height 1 leaf.height;
       links = no_links (λ h. field h (row k.m.rows r)) (word Left 0 leaf.left) (word Right 0 leaf.right);
-      birth = word Birth leaf.birth leaf.is_birth ∙ all_are k.m.epoch leaf.birth v.present (k.present id v at).0 leaf.now;
+      birth = word Birth leaf.birth leaf.is_birth ∙ all_are k.m.epoch leaf.birth v.words.present (k.present id v at).0 leaf.now;
       stamp = fresh.1;
     } in
     let b : Beside = record k.g { links = updates.relink (updates.changed k.g.links r (st.link r)) parent d r; tree = tree_changes.grown parent d (tree_changes.leaf_of r e) k.g.tree; linked = r ∷ k.g.linked } in
@@ -170,17 +170,17 @@ links_leaf about slots id me r key value parent f low small_key passing writing 
       w,
       keeps,
       tt,
-      entering about s.words s.views k id v at (set s.words (word_at parent f) r) rows' e b (r ∷ v.reached) (removed r v.own) (forgotten_row v.wrote r) (fact parent f r ∷ forgotten v.knows parent f) w.debt away (in_times r (r ∷ k.g.linked) (inl refl), all_linked_grows k.g.linked (r ∷ k.g.linked) (λ n i. inr i) v.reached (k.reached id v at)) (cell_set k.memory parent f low r) passing writing refl (sym absent) moves (λ n y. refl) clear
+      entering about s.words s.views k id v at (set s.words (word_at parent f) r) rows' e b (r ∷ v.trail.reached) (removed r v.fresh.own) (forgotten_row v.fresh.wrote r) (fact parent f r ∷ forgotten v.words.knows parent f) w.debt away (in_times r (r ∷ k.g.linked) (inl refl), all_linked_grows k.g.linked (r ∷ k.g.linked) (λ n i. inr i) v.trail.reached (k.reached id v at)) (cell_set k.memory parent f low r) passing writing refl (sym absent) moves (λ n y. refl) clear
           (locks_stay s.views id v at k.m.rows parent x w k.locked (field_other Lock f r (row k.m.rows parent) (λ z. is_lock (sym z))) near refl refl (sym (ap in_write writing)))
-          (each_others s.views id v at w (λ j u ne there. facts_elsewhere k.m.rows parent x u.holds u.holds u.knows (k.known j u there) (others_apart s.views id v at k.m.rows parent k.locked place.held j u ne there) (λ y. omega arith))
-          (ap (field f) (row_same k.m.rows parent x near) ∙ field_same f r (row k.m.rows parent), place.held, facts_left k.m.rows parent f r v.holds v.knows near known))
+          (each_others s.views id v at w (λ j u ne there. facts_elsewhere k.m.rows parent x u.holds u.holds u.words.knows (k.known j u there) (others_apart s.views id v at k.m.rows parent k.locked place.held j u ne there) (λ y. omega arith))
+          (ap (field f) (row_same k.m.rows parent x near) ∙ field_same f r (row k.m.rows parent), place.held, facts_left k.m.rows parent f r v.holds v.words.knows near known))
           (apart_linked k id v w at parent r x is_times leaf.own refl refl refl)
           (stamps_same k.m.rows parent x near (ap (λ (y : Field). (with_field y r (row k.m.rows parent)).stamp) place.by_side ∙ link_stamp d r (row k.m.rows parent))) (
             (λ j u ne there n c. leaves_apart st s' n (moves.2 n ((λ q. omega (arith, c, others_apart s.views id v at k.m.rows parent k.locked place.held j u ne there, ap (λ (i : ℕ). times i u.holds) q)), (λ q. omega (arith, c, unlocked j u there, ap (λ (i : ℕ). times i u.holds) q))))
                 (heights_same k.m.rows parent x near (ap (λ (y : Field). (with_field y r (row k.m.rows parent)).height) place.by_side ∙ link_height d r (row k.m.rows parent)))),
             subst (λ (g : Doing). DebtDoing s' g w.debt) (sym whole) refl,
             λ room ok. subst (λ (z : Table). DebtOk z (updates.changed (debts_of s.views) id w.debt)) (sym path)
-                (subst (λ (u : Debt). DebtOk (entry_kinds.leaf_linked st parent d r e) (updates.changed (debts_of s.views) id u)) (ap (debt_with key) (listing_is st parent (word_in v.knows parent Stamp) [] (known_word k.m.rows v.holds v.knows parent Stamp place.stamp known place.still)))
+                (subst (λ (u : Debt). DebtOk (entry_kinds.leaf_linked st parent d r e) (updates.changed (debts_of s.views) id u)) (ap (debt_with key) (listing_is st parent (word_in v.words.knows parent Stamp) [] (known_word k.m.rows v.holds v.words.knows parent Stamp place.stamp known place.still)))
                 (leaf_owes st (debts_of s.views) id parent d r e k.table ok may (held_free k id v at parent place.held) (owes_none k id v at (ap is_live passing) owes room))),
           ),
       (k.g.history, record { goes_on = seen.0; legal = legal_more k.g.history e k.history.legal (sym absent); own = sym mine.0 }, refl),

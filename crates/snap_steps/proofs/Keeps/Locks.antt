@@ -40,7 +40,7 @@ use mathlib.Core.Option as maybe
 use Rattle.snap_steps.specs.Rule.History.{whole}
 
 -- `try_lock`
-pub locks : (about : About) (slots id : ℕ) (me : Sat) (r new : ℕ) (said : maybe.Option (Unit {0})) (made counted : Bool) → r ≤ about.rows → new ≡ me.0.who + 1 → me.0.stage ≡ Writing made counted → times r me.0.holds ≡ 0 → (r ≡ 0) ⊎ (0 < times r me.0.reached)
+pub locks : (about : About) (slots id : ℕ) (me : Sat) (r new : ℕ) (said : maybe.Option (Unit {0})) (made counted : Bool) → r ≤ about.rows → new ≡ me.0.who + 1 → me.0.stage ≡ Writing made counted → times r me.0.holds ≡ 0 → (r ≡ 0) ⊎ (0 < times r me.0.trail.reached)
     → Allows (Rule about) slots id me (word_at r Lock) (λ n. either (eqb n 0) new n) (locking_tried (step slots (word_at r Lock) 0 new said) me)
 locks about slots id me r new said made counted low up writing free comes s k wide at small =
     let v : View = me.0 in let w : View = locked v r in let found : ℕ = get_or s.words (word_at r Lock) 0 in let is : found ≡ (row k.m.rows r).lock = cell_is k.memory r Lock low in let rows_wide = k.memory.wide in
@@ -53,7 +53,7 @@ locks about slots id me r new said made counted low up writing free comes s k wi
       w,
       keeps,
       tt,
-      locking about s.words s.views k id v at r new low (r ∷ v.holds) v.knows v.heights (ap in_write writing)
+      locking about s.words s.views k id v at r new low (r ∷ v.holds) v.words.knows v.heights (ap in_write writing)
           record {
             count = λ y. dite (ℕ_discrete y r)
                 (λ e. let here : (row (changed k.m.rows r Lock new) y).lock ≡ new = ap (λ (z : ℕ). (row (changed k.m.rows r Lock new) z).lock) e ∙ ap (λ (z : Row). z.lock) (row_same k.m.rows r x near) in
@@ -67,9 +67,9 @@ locks about slots id me r new said made counted low up writing free comes s k wi
             writing = each_others s.views id v at w (λ j u ne there. k.locked.writing j u there)
                 (λ y. dite (ℕ_discrete y r) (λ e. omega (arith, one_same y r e, ap (λ (z : ℕ). times z v.holds) e, ap in_write writing)) (λ ne. omega (arith, one_other y r ne, k.locked.writing id v at y)));
           }
-          (each_others s.views id v at w (λ j u ne there. facts_elsewhere k.m.rows r x u.holds u.holds u.knows (k.known j u there) (apart j u there) (λ y. omega arith))
-          (facts_elsewhere k.m.rows r x v.holds (r ∷ v.holds) v.knows (k.known id v at) free (λ y. omega arith)))
-          (λ pos. ⊎_elim (λ (z : r ≡ 0). absurd (omega arith)) (λ (l : 0 < times r v.reached). in_times r k.g.linked (in_of k.g.linked v.reached r (k.reached id v at) l)) comes)
+          (each_others s.views id v at w (λ j u ne there. facts_elsewhere k.m.rows r x u.holds u.holds u.words.knows (k.known j u there) (apart j u there) (λ y. omega arith))
+          (facts_elsewhere k.m.rows r x v.holds (r ∷ v.holds) v.words.knows (k.known id v at) free (λ y. omega arith)))
+          (λ pos. ⊎_elim (λ (z : r ≡ 0). absurd (omega arith)) (λ (l : 0 < times r v.trail.reached). in_times r k.g.linked (in_of k.g.linked v.trail.reached r (k.reached id v at) l)) comes)
           (heights_more (state_of k.m k.g) r v.holds v.heights (k.heights id v at))
           (λ y c. omega (arith, k.held id v at y c)),
       λ r' same. let t = one_word r r' Lock Lock same in ((λ _. ap (λ (z : ℕ). (locked v z, me.1)) t.0), (λ miss. absurd (miss hit))),
@@ -93,7 +93,7 @@ frees about slots id me r low held whole s k wide at small =
       w,
       keeps,
       tt,
-      locking about s.words s.views k id v at r 0 low (removed r v.holds) (forgotten_row v.knows r) (heights_forgotten v.heights r) in_it
+      locking about s.words s.views k id v at r 0 low (removed r v.holds) (forgotten_row v.words.knows r) (heights_forgotten v.heights r) in_it
           record {
             count = λ y. dite (ℕ_discrete y r)
                 (λ e. let here : (row (changed k.m.rows r Lock 0) y).lock ≡ 0 = ap (λ (z : ℕ). (row (changed k.m.rows r Lock 0) z).lock) e ∙ ap (λ (z : Row). z.lock) (row_same k.m.rows r x near) in
@@ -114,7 +114,7 @@ frees about slots id me r low held whole s k wide at small =
                 (λ y l. dite (ℕ_discrete y r) (λ e. absurd (omega (arith, ap (λ (z : ℕ). times z (removed r v.holds)) e, removed_same r v.holds))) (λ ne. ap (λ (z : Row). z.lock) (row_other k.m.rows r y x ne) ∙ k.locked.owner id v at y (omega (arith, removed_other r y v.holds ne))));
             writing = each_others s.views id v at w (λ j u ne there. k.locked.writing j u there) (λ y. omega (arith, less y, k.locked.writing id v at y));
           }
-          (each_others s.views id v at w (λ j u ne there. facts_elsewhere k.m.rows r x u.holds u.holds u.knows (k.known j u there) (apart j u ne there) (λ y. omega arith)) (facts_freed k.m.rows r x v.holds v.knows (k.known id v at)))
+          (each_others s.views id v at w (λ j u ne there. facts_elsewhere k.m.rows r x u.holds u.holds u.words.knows (k.known j u there) (apart j u ne there) (λ y. omega arith)) (facts_freed k.m.rows r x v.holds v.words.knows (k.known id v at)))
           (λ pos. dite (ℕ_discrete (times r k.g.linked) 0) (λ z. absurd (omega (arith, (k.apart.fresh r pos z).0, k.locked.owner id v at r held))) (λ nz. omega arith))
           (heights_dropped (state_of k.m k.g) r v.holds v.heights (k.heights id v at))
           (λ y c. absurd (subst (λ x. Concerns x y) whole c)),

@@ -82,15 +82,15 @@ noted_is s (suc n) x l (inl z) = absurd (omega (arith, z))
 noted_is s (suc n) x l (inr e) = listing_is s (suc n) x l e
 
 -- `store_height`
-pub raises : (about : About) (slots id : ℕ) (me : Sat) (parent : ℕ) (p : Side) (r key h : ℕ) → r ≤ about.rows → is_live me.0.role ≡ 1 → IsPair me.0 parent p r → IsKnown me.0.knows r Key key → IsRightHeight me.0 r h → AimsByHeight me.0 parent r → me.0.doing ≡ Nothing
+pub raises : (about : About) (slots id : ℕ) (me : Sat) (parent : ℕ) (p : Side) (r key h : ℕ) → r ≤ about.rows → is_live me.0.role ≡ 1 → IsPair me.0 parent p r → IsKnown me.0.words.knows r Key key → IsRightHeight me.0 r h → AimsByHeight me.0 parent r → me.0.doing ≡ Nothing
     → Allows (Rule about) slots id me (word_at r Height) (λ _. h) (λ _. height_stored parent r key (step slots (word_at r Height) h 0 maybe.none) me 0)
 raises about slots id me parent p r key h low is_pass pair key_known right aims whole s k wide at small =
     let v : View = me.0 in let w : View = heightened v parent r key h in let rows_wide = k.memory.wide in let near : r < length k.m.rows = omega arith in
     let o : Row = with_field Height h (row k.m.rows r) in let rows' : List Row = changed k.m.rows r Height h in let st : Table = state_of k.m k.g in
     let known = k.known id v at in let present = (k.present id v at).0 in
-    let linked : (n : ℕ) → 0 < times n v.reached → In n k.g.linked = λ n. in_of k.g.linked v.reached n (k.reached id v at) in
-    let alive : (n : ℕ) → 0 < times n v.reached → IsBorn v n → IsLive st n = λ n l. born_live st k.m.rows k.m.epoch v n k.table refl refl refl known present (linked n l) in
-    let word : (n : ℕ) (f : Field) (y : ℕ) → IsKnown v.knows n f y → field f (row k.m.rows n) ≡ y = λ n f y. known_is k.m.rows v.holds v.knows n f y known in
+    let linked : (n : ℕ) → 0 < times n v.trail.reached → In n k.g.linked = λ n. in_of k.g.linked v.trail.reached n (k.reached id v at) in
+    let alive : (n : ℕ) → 0 < times n v.trail.reached → IsBorn v n → IsLive st n = λ n l. born_live st k.m.rows k.m.epoch v n k.table refl refl refl known present (linked n l) in
+    let word : (n : ℕ) (f : Field) (y : ℕ) → IsKnown v.words.knows n f y → field f (row k.m.rows n) ≡ y = λ n f y. known_is k.m.rows v.holds v.words.knows n f y known in
     let live : IsLive st r = alive r pair.reached pair.born in
     let parent_live : IsParent st parent p = ⊎_elim (λ z. inl z) (λ q. inr (alive parent q.0 q.1)) pair.upper in
     let writing : in_write v.stage ≡ 1 = let held = pair.held in omega (arith, k.locked.writing id v at r, in_write_le v.stage) in
@@ -110,8 +110,8 @@ raises about slots id me parent p r key h low is_pass pair key_known right aims 
     let aims_at : (n : ℕ) → AimsAt v n → Aims st (debts_of s.views id) n = λ n q. (q.is_row, ap (λ (u : Debt). u.to_do) debt_at ∙ q.to_do ∙ ap Some (sym (word n Key q.key q.is_key))) in
     let owe : HasRoom st k.m.next about.rows → ((debts_of s.views id).to_do ≡ None) ⊎ Aims st (debts_of s.views id) r ⊎ Aims st (debts_of s.views id) parent ⊎ Owes st (debts_of s.views id) parent ⊎ (parent ≡ 0) = λ room.
     elim aims [ inl why ↦ absurd (no_room k id v at is_pass why room) | inr y ↦ elim y [ inl n ↦ inl (ap (λ (u : Debt). u.to_do) debt_at ∙ n) | inr z ↦ elim z [ inl a ↦ inr (inl (aims_at r a)) | inr q ↦ elim q [ inl a ↦ inr (inr (inl (aims_at parent a))) | inr t ↦ elim t [ inl n ↦ inr (inr (inr (inl (subst (λ (u : Debt). Owes st u parent) (sym debt_at) (subst (λ (x : ℕ). IsListed parent x v.debt.list) (sym (word parent Stamp n.stamp n.still)) n.listed))))) | inr z ↦ inr (inr (inr (inr z))) ] ] ] ] ] in
-    let parent_stamp : (parent ≡ 0) ⊎ (st.stamp parent ≡ word_in v.knows parent Stamp) = ⊎_elim (λ z. inl z.0) (λ q. let born = q.1 in inr (known_word k.m.rows v.holds v.knows parent Stamp born.stamp known born.is_stamp)) pair.upper in
-    let debt_is : height_debt st parent r (debts_of s.views id) ≡ w.debt = ap (height_debt st parent r) debt_at ∙ ap (λ (y : ℕ). debt_with v.debt.to_do y (Rattle.snap_rule.specs.Debt.Lists.noted st parent v.debt.list) v.debt.turning) (word r Key key key_known) ∙ ap (λ (l : List Mark). debt_with v.debt.to_do key l v.debt.turning) (noted_is st parent (word_in v.knows parent Stamp) v.debt.list parent_stamp) in (
+    let parent_stamp : (parent ≡ 0) ⊎ (st.stamp parent ≡ word_in v.words.knows parent Stamp) = ⊎_elim (λ z. inl z.0) (λ q. let born = q.1 in inr (known_word k.m.rows v.holds v.words.knows parent Stamp born.stamp known born.is_stamp)) pair.upper in
+    let debt_is : height_debt st parent r (debts_of s.views id) ≡ w.debt = ap (height_debt st parent r) debt_at ∙ ap (λ (y : ℕ). debt_with v.debt.to_do y (Rattle.snap_rule.specs.Debt.Lists.noted st parent v.debt.list) v.debt.turning) (word r Key key key_known) ∙ ap (λ (l : List Mark). debt_with v.debt.to_do key l v.debt.turning) (noted_is st parent (word_in v.words.knows parent Stamp) v.debt.list parent_stamp) in (
       w,
       keeps,
       tt,
@@ -120,8 +120,8 @@ raises about slots id me parent p r key h low is_pass pair key_known right aims 
           (λ n c. k.held id v at n c)
           (λ j u ne there n c. tt)
           (locks_stay s.views id v at k.m.rows r o w k.locked refl near refl refl refl)
-          (each_others s.views id v at w (λ j u ne there. facts_elsewhere k.m.rows r o u.holds u.holds u.knows (k.known j u there) (others_apart s.views id v at k.m.rows r k.locked pair.held j u ne there) (λ y. omega arith))
-          (ap (λ (y : Row). y.height) (row_same k.m.rows r o near), pair.held, facts_left k.m.rows r Height h v.holds v.knows near known))
+          (each_others s.views id v at w (λ j u ne there. facts_elsewhere k.m.rows r o u.holds u.holds u.words.knows (k.known j u there) (others_apart s.views id v at k.m.rows r k.locked pair.held j u ne there) (λ y. omega arith))
+          (ap (λ (y : Row). y.height) (row_same k.m.rows r o near), pair.held, facts_left k.m.rows r Height h v.holds v.words.knows near known))
           (k.reached id v at)
           (apart_changed s.views id v w at k.m.next k.m.rows k.g.linked k.apart (λ u j there. omega (arith, k.drawn.none_zero, term_le (times_drawn 0) s.views j u there)) r o
           (λ y pos z ne. let q = row_other k.m.rows r y o ne in let f = k.apart.fresh y pos z in (ap (λ (i : Row). i.lock) q ∙ f.0, ap (λ (i : Row). i.stamp) q ∙ f.1)) (λ pos. in_times r k.g.linked (linked r pair.reached)) refl refl refl)

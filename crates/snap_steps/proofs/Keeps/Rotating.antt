@@ -72,7 +72,7 @@ held_still {views = views} k id v at n d held none = k.changes n d (none_total (
     (λ ne. none_changing u.doing u.holds n d (k.held j u there) (others_apart views id v at k.m.rows n k.locked held j u ne there))))
 
 -- `link_lowered`
-pub lowers_link : (about : About) (slots id : ℕ) (me : Sat) (parent : ℕ) (p : Side) (r : ℕ) (d : Side) (raised middle : ℕ) → r ≤ about.rows → me.0.doing ≡ Shrunk parent p r d raised → IsKnown me.0.knows raised (link_field (other d)) middle
+pub lowers_link : (about : About) (slots id : ℕ) (me : Sat) (parent : ℕ) (p : Side) (r : ℕ) (d : Side) (raised middle : ℕ) → r ≤ about.rows → me.0.doing ≡ Shrunk parent p r d raised → IsKnown me.0.words.knows raised (link_field (other d)) middle
     → Allows (Rule about) slots id me (word_at r (link_field d)) (λ _. middle) (λ _. lowered_stored (step slots (word_at r (link_field d)) middle 0 maybe.none) me 0)
 lowers_link about slots id me parent p r d raised middle low change middle_known s k wide at small =
     let v : View = me.0 in let w : View = lowered v parent p r d raised middle in let rows_wide = k.memory.wide in let near : r < length k.m.rows = omega arith in
@@ -85,7 +85,7 @@ lowers_link about slots id me parent p r d raised middle low change middle_known
     let doing : DoingOk st (Shrunk parent p r d raised) = subst (DoingOk st) change (k.doing id v at) in
     let free : k.g.pending raised (other d) ≡ plain = held_still k id v at raised (other d) (holds raised (inr (inr refl))) (ap (changing raised (other d)) change) in
     let may = lower_doing st parent p r d raised writers k.table.changes free doing in
-    let is_middle : st.link raised (other d) ≡ middle = known_is k.m.rows v.holds v.knows raised (link_field (other d)) middle (k.known id v at) middle_known in
+    let is_middle : st.link raised (other d) ≡ middle = known_is k.m.rows v.holds v.words.knows raised (link_field (other d)) middle (k.known id v at) middle_known in
     let b : Beside = record k.g { pending = updates.relink k.g.pending r d (lowering (st.link raised (other d))) } in
     let s' : Table = state_of (record k.m { rows = rows' }) b in
     let path : s' ≡ kinds.lowered_linked st r d raised = sets k.m b r f middle near ∙ with_link (state_of k.m b) r d middle ∙ ap (λ (y : ℕ). let z : Table = record (state_of k.m b) { link = updates.relink st.link r d y } in z) (sym is_middle) in
@@ -105,8 +105,8 @@ lowers_link about slots id me parent p r d raised middle low change middle_known
           holds
           (λ j u ne there n c. theirs j u ne there n (k.held j u there n c))
           (locks_stay s.views id v at k.m.rows r o w k.locked (field_other Lock f middle (row k.m.rows r) (λ z. no_lock d (sym z))) near refl refl refl)
-          (each_others s.views id v at w (λ j u ne there. facts_elsewhere k.m.rows r o u.holds u.holds u.knows (k.known j u there) (others_apart s.views id v at k.m.rows r k.locked held j u ne there) (λ y. omega arith))
-          (ap (field f) (row_same k.m.rows r o near) ∙ field_same f middle (row k.m.rows r), held, facts_left k.m.rows r f middle v.holds v.knows near (k.known id v at)))
+          (each_others s.views id v at w (λ j u ne there. facts_elsewhere k.m.rows r o u.holds u.holds u.words.knows (k.known j u there) (others_apart s.views id v at k.m.rows r k.locked held j u ne there) (λ y. omega arith))
+          (ap (field f) (row_same k.m.rows r o near) ∙ field_same f middle (row k.m.rows r), held, facts_left k.m.rows r f middle v.holds v.words.knows near (k.known id v at)))
           (k.reached id v at)
           (apart_changed s.views id v w at k.m.next k.m.rows k.g.linked k.apart (λ u j there. omega (arith, k.drawn.none_zero, term_le (times_drawn 0) s.views j u there)) r o
           (λ y pos z ne. let q = row_other k.m.rows r y o ne in let h = k.apart.fresh y pos z in (ap (λ (i : Row). i.lock) q ∙ h.0, ap (λ (i : Row). i.stamp) q ∙ h.1)) (λ pos. in_times r k.g.linked (k.table.tree.rows r doing.turn.live.stands).0) refl refl refl)
@@ -158,8 +158,8 @@ lifts_link about slots id me parent p r d raised low change s k wide at small =
           holds
           (λ j u ne there n c. theirs j u ne there n (k.held j u there n c))
           (locks_stay s.views id v at k.m.rows raised o w k.locked (field_other Lock f r (row k.m.rows raised) (λ z. no_lock (other d) (sym z))) near refl refl refl)
-          (each_others s.views id v at w (λ j u ne there. facts_elsewhere k.m.rows raised o u.holds u.holds u.knows (k.known j u there) (others_apart s.views id v at k.m.rows raised k.locked held j u ne there) (λ y. omega arith))
-          (ap (field f) (row_same k.m.rows raised o near) ∙ field_same f r (row k.m.rows raised), held, facts_left k.m.rows raised f r v.holds v.knows near (k.known id v at)))
+          (each_others s.views id v at w (λ j u ne there. facts_elsewhere k.m.rows raised o u.holds u.holds u.words.knows (k.known j u there) (others_apart s.views id v at k.m.rows raised k.locked held j u ne there) (λ y. omega arith))
+          (ap (field f) (row_same k.m.rows raised o near) ∙ field_same f r (row k.m.rows raised), held, facts_left k.m.rows raised f r v.holds v.words.knows near (k.known id v at)))
           (k.reached id v at)
           (apart_changed s.views id v w at k.m.next k.m.rows k.g.linked k.apart (λ u j there. omega (arith, k.drawn.none_zero, term_le (times_drawn 0) s.views j u there)) raised o
           (λ y pos z ne. let q = row_other k.m.rows raised y o ne in let h = k.apart.fresh y pos z in (ap (λ (i : Row). i.lock) q ∙ h.0, ap (λ (i : Row). i.stamp) q ∙ h.1)) (λ pos. in_times raised k.g.linked (k.table.tree.rows raised doing.turn.raised_live.stands).0) refl refl refl)
@@ -179,7 +179,7 @@ abbrev cleared_debt : Option ℕ → List Mark → Debt
 cleared_debt to_do l = record { to_do = to_do; list = l; turning = None }
 
 -- `clear_shrinking`
-pub clears_mark : (about : About) (slots id : ℕ) (me : Sat) (r x : ℕ) → r ≤ about.rows → me.0.doing ≡ Turned r → IsKnown me.0.knows r Stamp x
+pub clears_mark : (about : About) (slots id : ℕ) (me : Sat) (r x : ℕ) → r ≤ about.rows → me.0.doing ≡ Turned r → IsKnown me.0.words.knows r Stamp x
     → Allows (Rule about) slots id me (word_at r Stamp) (λ _. x + 2) (λ _. cleared_stored (step slots (word_at r Stamp) (x + 2) 0 maybe.none) me 0)
 clears_mark about slots id me r x low change stamp_known s k wide at small =
     let v : View = me.0 in let w : View = cleared v r (x + 2) in let rows_wide = k.memory.wide in let near : r < length k.m.rows = omega arith in
@@ -189,7 +189,7 @@ clears_mark about slots id me r x low change stamp_known s k wide at small =
     let writing : in_write v.stage ≡ 1 = omega (arith, k.locked.writing id v at r, in_write_le v.stage, held) in
     let writers = some_write s.views id v k.g.writers at k.writers writing in
     let may : kinds.MayClearShrinking st r = clear_doing st r writers (subst (DoingOk st) change (k.doing id v at)) in
-    let stamp : (row k.m.rows r).stamp ≡ x = known_is k.m.rows v.holds v.knows r Stamp x known stamp_known in
+    let stamp : (row k.m.rows r).stamp ≡ x = known_is k.m.rows v.holds v.words.knows r Stamp x known stamp_known in
     let marked : x % 4 ≡ 2 = subst IsLowering stamp may.marked in
     let s' : Table = state_of (record k.m { rows = rows' }) k.g in
     let cleared_st : Table = kinds.shrinking_cleared st r in
@@ -210,8 +210,8 @@ clears_mark about slots id me r x low change stamp_known s k wide at small =
           (λ n c. absurd c)
           (λ j u ne there n c. theirs j u ne there n (k.held j u there n c))
           (locks_stay s.views id v at k.m.rows r o w k.locked refl near refl refl refl)
-          (each_others s.views id v at w (λ j u ne there. facts_elsewhere k.m.rows r o u.holds u.holds u.knows (k.known j u there) (others_apart s.views id v at k.m.rows r k.locked held j u ne there) (λ y. omega arith))
-          (ap (λ (y : Row). y.stamp) (row_same k.m.rows r o near), held, facts_left k.m.rows r Stamp (x + 2) v.holds v.knows near known))
+          (each_others s.views id v at w (λ j u ne there. facts_elsewhere k.m.rows r o u.holds u.holds u.words.knows (k.known j u there) (others_apart s.views id v at k.m.rows r k.locked held j u ne there) (λ y. omega arith))
+          (ap (λ (y : Row). y.stamp) (row_same k.m.rows r o near), held, facts_left k.m.rows r Stamp (x + 2) v.holds v.words.knows near known))
           (k.reached id v at)
           (apart_changed s.views id v w at k.m.next k.m.rows k.g.linked k.apart (λ u j there. omega (arith, k.drawn.none_zero, term_le (times_drawn 0) s.views j u there)) r o
           (λ y pos z ne. let q = row_other k.m.rows r y o ne in let h = k.apart.fresh y pos z in (ap (λ (i : Row). i.lock) q ∙ h.0, ap (λ (i : Row). i.stamp) q ∙ h.1)) (λ pos. in_times r k.g.linked (k.table.tree.rows r may.live.stands).0) refl refl refl)

@@ -35,7 +35,7 @@ pub notes_kept : (about : About) (id : ℕ) (v : View) → v.role ≡ Passing �
 notes_kept about id v passing s k at = subst (λ (l : List View). Kept about s.words (l ++ note_of v ∷ [])) (sym (set_again s.views id v at)) (noted_more about s.words s.views k id v at (ap is_live passing))
 
 -- a note, or the seat of a clone
-pub learns : (about : About) (id : ℕ) (v : View) (other : ℕ) (u : View) (seen : List Entry) (base : Base) (outworn : List ℕ) → v.role ≡ Passing → u ≡ silent u.rows u.passes seen u.handed u.epochs u.worn base outworn → Joins (Rule about) id v other u (learned v u) gone
+pub learns : (about : About) (id : ℕ) (v : View) (other : ℕ) (u : View) (seen : List Entry) (base : Base) (outworn : List ℕ) → v.role ≡ Passing → u ≡ silent u.rows u.passes seen u.noted.handed u.noted.epochs u.noted.worn base outworn → Joins (Rule about) id v other u (learned v u) gone
 learns about id v other u seen base outworn passing is s k at apart there =
     let idle : u.stage ≡ Idle = ap (λ (x : View). x.stage) is in let not_opening : is_opening u.role ≡ 0 = ap (λ (x : View). is_opening x.role) is in
     let none_named : (i : ℕ) → names i u ≡ 0 = λ i. ap (λ (x : View). names i x) is in

@@ -176,7 +176,7 @@ module _ (m : Memory) (g : Beside) (ok : TableOk (state_of m g)) (seen : List En
   ends (Matched c') r f x h at along is = tt
 
 -- a note of trouble
-noted_so : (next epoch : ℕ) (v : View) (met : Bool) → KnowsHeader next epoch v → IsTrueOfHeader next epoch (trouble_noted met v.notes) v.handed v.epochs v.base.drawn
+noted_so : (next epoch : ℕ) (v : View) (met : Bool) → KnowsHeader next epoch v → IsTrueOfHeader next epoch (trouble_noted met v.noted.notes) v.noted.handed v.noted.epochs v.base.drawn
 noted_so next epoch v true h = header_more next epoch v notes.Trouble h tt
 noted_so next epoch v false h = h
 
@@ -192,12 +192,12 @@ tries_next about slots id me r f key point ended low high near passing call next
     let w : View = tried_on v found t.0 in
     let tries : KnowsTry st w = subst (λ y. TryingOk st (tries_on y v.tries found t.0)) (sym call.way) (subst (λ y. TryingOk st (tries_on (On key point) y found t.0)) (sym call.call) t.1) in
     let after : IsOnWay st w = subst (λ y. ReadingOk st v.seen (goes_on y found)) (sym call.way) (steps_on k.m k.g k.table v.seen key seen.0 point r f found way next (sym is)) in
-    let come : AllLinked k.g.linked (comes_to v.reads found) = subst (λ y. AllLinked k.g.linked (comes_to y found)) (sym call.way) (comes_in k.m k.g k.table v.seen key point r f found way next (sym is)) in
-    let reached : AllLinked k.g.linked w.reached = in_append k.g.linked v.reached (comes_to v.reads found) (k.reached id v at) come in (
+    let come : AllLinked k.g.linked (comes_to v.way.reads found) = subst (λ y. AllLinked k.g.linked (comes_to y found)) (sym call.way) (comes_in k.m k.g k.table v.seen key point r f found way next (sym is)) in
+    let reached : AllLinked k.g.linked w.trail.reached = in_append k.g.linked v.trail.reached (comes_to v.way.reads found) (k.reached id v at) come in (
       w,
       keeps,
       tt,
-      trying about s.words s.views k (word_at r f) id v w at (k.known id v at) reached after (place_goes st v.seen v.reads v.place (k.ways id v at) (k.places id v at)) (k.present id v at) (noted_so k.m.next k.m.epoch v (meets_trouble v.reads v.tries found) (k.notes id v at)) (k.worn id v at) (k.lasting id v at) tries (k.heights id v at) (k.debts id v at) (λ _ ok. owed_itself s.views id v at (state_of k.m k.g) ok) (begins_itself v.seen) seen.0 seen.1,
+      trying about s.words s.views k (word_at r f) id v w at (k.known id v at) reached after (place_goes st v.seen v.way.reads v.way.place (k.ways id v at) (k.places id v at)) (k.present id v at) (noted_so k.m.next k.m.epoch v (meets_trouble v.way.reads v.tries found) (k.notes id v at)) (k.worn id v at) (k.lasting id v at) tries (k.heights id v at) (k.debts id v at) (λ _ ok. owed_itself s.views id v at (state_of k.m k.g) ok) (begins_itself v.seen) seen.0 seen.1,
       (t.0, refl, subst (λ y. BoundAt v.rows y found) (sym call.way) (bounds k.m k.g k.table v.rows v.seen key point r f found (λ y is_there. let l = k.apart.low y (in_times y k.g.linked is_there) in let a = (k.about_known id v at (ap is_live passing)).0 in let top = k.memory.room in omega (arith, l.1)) way next (sym is))),
     )
 
@@ -216,7 +216,7 @@ tries_last about slots id me r f key point ended low high near passing alone cal
       w,
       keeps,
       tt,
-      trying about s.words s.views k (word_at r f) id v w at (k.known id v at) (k.reached id v at) after (k.places id v at) (k.present id v at) (noted_so k.m.next k.m.epoch v (meets_trouble v.reads v.tries found) (k.notes id v at)) (k.worn id v at) (k.lasting id v at) tries (k.heights id v at) (k.debts id v at) (λ _ ok. owed_itself s.views id v at (state_of k.m k.g) ok) t.from t.to seen.1,
+      trying about s.words s.views k (word_at r f) id v w at (k.known id v at) (k.reached id v at) after (k.places id v at) (k.present id v at) (noted_so k.m.next k.m.epoch v (meets_trouble v.way.reads v.tries found) (k.notes id v at)) (k.worn id v at) (k.lasting id v at) tries (k.heights id v at) (k.debts id v at) (λ _ ok. owed_itself s.views id v at (state_of k.m k.g) ok) t.from t.to seen.1,
       (
         h,
         record { goes_on = t.from; legal = legal_begin h k.g.history t.to k.history.legal; own = of_between v.seen h k.g.history v.who t.from t.to own.1 ∙ sym own.0 },

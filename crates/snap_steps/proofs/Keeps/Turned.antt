@@ -92,7 +92,7 @@ abbrev debt_of : ℕ → ℕ → List Mark → Debt
 debt_of key r l = record { to_do = Some key; list = l; turning = Some r }
 
 -- `link_parent`
-pub turns : (about : About) (slots id : ℕ) (me : Sat) (parent : ℕ) (p : Side) (r : ℕ) (d : Side) (raised key : ℕ) → parent ≤ about.rows → me.0.doing ≡ Lifted parent p r d raised → IsKnown me.0.knows r Key key → HasStamps me.0 parent r raised
+pub turns : (about : About) (slots id : ℕ) (me : Sat) (parent : ℕ) (p : Side) (r : ℕ) (d : Side) (raised key : ℕ) → parent ≤ about.rows → me.0.doing ≡ Lifted parent p r d raised → IsKnown me.0.words.knows r Key key → HasStamps me.0 parent r raised
     → Allows (Rule about) slots id me (word_at parent (link_field p)) (λ _. raised) (λ _. turn_stored (step slots (word_at parent (link_field p)) raised 0 maybe.none) me 0)
 turns about slots id me parent p r d raised key low change key_known stamps s k wide at small =
     let v : View = me.0 in let w : View = turned v parent p r raised key in let rows_wide = k.memory.wide in let near : parent < length k.m.rows = omega arith in
@@ -121,14 +121,14 @@ turns about slots id me parent p r d raised key low change key_known stamps s k 
     let heights : (n : ℕ) → (row rows' n).height ≡ (row k.m.rows n).height = heights_same k.m.rows parent o near (link_height p raised (row k.m.rows parent)) in
     let was : (n : ℕ) (e : Side) → changing n e v.doing ≡ at_link n e r d + at_link n e raised (other d) = λ n e. ap (changing n e) change in
     let is_row = not_zero st k.table r may.0.live.stands in
-    let key_is : st.key r ≡ key = known_is k.m.rows v.holds v.knows r Key key known key_known in
-    let stamp_is : (n : ℕ) → HasStamp v n → st.stamp n ≡ word_in v.knows n Stamp = λ n h. known_word k.m.rows v.holds v.knows n Stamp h.0 known h.1 in
-    let parent_stamp : (parent ≡ 0) ⊎ (st.stamp parent ≡ word_in v.knows parent Stamp) = elim stamps.0 [ inl z ↦ inl z | inr h ↦ inr (stamp_is parent h) ] in
-    let l0 : List Mark = v.debt.list in let l1 : List Mark = listing parent (word_in v.knows parent Stamp) l0 in let l2 : List Mark = listing raised (word_in v.knows raised Stamp) l1 in
+    let key_is : st.key r ≡ key = known_is k.m.rows v.holds v.words.knows r Key key known key_known in
+    let stamp_is : (n : ℕ) → HasStamp v n → st.stamp n ≡ word_in v.words.knows n Stamp = λ n h. known_word k.m.rows v.holds v.words.knows n Stamp h.0 known h.1 in
+    let parent_stamp : (parent ≡ 0) ⊎ (st.stamp parent ≡ word_in v.words.knows parent Stamp) = elim stamps.0 [ inl z ↦ inl z | inr h ↦ inr (stamp_is parent h) ] in
+    let l0 : List Mark = v.debt.list in let l1 : List Mark = listing parent (word_in v.words.knows parent Stamp) l0 in let l2 : List Mark = listing raised (word_in v.words.knows raised Stamp) l1 in
     let list_is : noted st r (noted st raised (noted st parent l0)) ≡ w.debt.list =
-    ap (λ (l : List Mark). noted st r (noted st raised l)) (noted_is st parent (word_in v.knows parent Stamp) l0 parent_stamp)
-    ∙ ap (noted st r) (listing_is st raised (word_in v.knows raised Stamp) l1 (stamp_is raised stamps.2))
-    ∙ listing_is st r (word_in v.knows r Stamp) l2 (stamp_is r stamps.1) in
+    ap (λ (l : List Mark). noted st r (noted st raised l)) (noted_is st parent (word_in v.words.knows parent Stamp) l0 parent_stamp)
+    ∙ ap (noted st r) (listing_is st raised (word_in v.words.knows raised Stamp) l1 (stamp_is raised stamps.2))
+    ∙ listing_is st r (word_in v.words.knows r Stamp) l2 (stamp_is r stamps.1) in
     let debt_at : debts_of s.views id ≡ v.debt = debts_at s.views id v at in
     let debt_is : raise_debt st parent r raised (debts_of s.views id) ≡ w.debt = ap (raise_debt st parent r raised) debt_at ∙ (λ i. debt_of (key_is i) r (list_is i)) in
     let own : Turning st v.debt r × AimsAtTurn st v.debt r raised = subst (λ (g : Doing). DebtDoing st g v.debt) change (k.debts id v at).0 in (
@@ -145,8 +145,8 @@ turns about slots id me parent p r d raised key low change key_known stamps s k 
           (λ n c. concerned n (inr (inl c)))
           (λ j u ne there n c. theirs j u ne there n (k.held j u there n c))
           (locks_stay s.views id v at k.m.rows parent o w k.locked (field_other Lock f raised (row k.m.rows parent) (λ z. no_lock p (sym z))) near refl refl refl)
-          (each_others s.views id v at w (λ j u ne there. facts_elsewhere k.m.rows parent o u.holds u.holds u.knows (k.known j u there) (others_apart s.views id v at k.m.rows parent k.locked held j u ne there) (λ y. omega arith))
-          (ap (field f) (row_same k.m.rows parent o near) ∙ field_same f raised (row k.m.rows parent), held, facts_left k.m.rows parent f raised v.holds v.knows near known))
+          (each_others s.views id v at w (λ j u ne there. facts_elsewhere k.m.rows parent o u.holds u.holds u.words.knows (k.known j u there) (others_apart s.views id v at k.m.rows parent k.locked held j u ne there) (λ y. omega arith))
+          (ap (field f) (row_same k.m.rows parent o near) ∙ field_same f raised (row k.m.rows parent), held, facts_left k.m.rows parent f raised v.holds v.words.knows near known))
           (k.reached id v at)
           (apart_changed s.views id v w at k.m.next k.m.rows k.g.linked k.apart (λ u j there. omega (arith, k.drawn.none_zero, term_le (times_drawn 0) s.views j u there)) parent o
           (λ y pos z ne. let q = row_other k.m.rows parent y o ne in let h = k.apart.fresh y pos z in (ap (λ (i : Row). i.lock) q ∙ h.0, ap (λ (i : Row). i.stamp) q ∙ h.1)) (λ pos. in_times parent k.g.linked (upper_in st parent p (λ m l. (k.table.tree.rows m l.stands).0) may.0.parent_live pos)) refl refl refl)
@@ -164,9 +164,9 @@ turns about slots id me parent p r d raised key low change key_known stamps s k 
                 }))),
           ),
       λ parent' row' raised' key' p' d' same key_known'. (
-        told parent' row' raised' key' p' d' (sym change ∙ same) (λ e. sym key_is ∙ ap (λ (y : ℕ). st.key y) e ∙ known_is k.m.rows v.holds v.knows row' Key key' known key_known'),
-        λ x ne is. let e : x ≡ word_in v.knows parent' Stamp = sym (known_is k.m.rows v.holds v.knows parent' Stamp x known is) ∙ known_word k.m.rows v.holds v.knows parent' Stamp x known is in
-            listed_more row' (word_in v.knows row' Stamp) parent' x _ (listed_more raised' (word_in v.knows raised' Stamp) parent' x _ (listed_here parent' x (word_in v.knows parent' Stamp) v.debt.list ne e)),
+        told parent' row' raised' key' p' d' (sym change ∙ same) (λ e. sym key_is ∙ ap (λ (y : ℕ). st.key y) e ∙ known_is k.m.rows v.holds v.words.knows row' Key key' known key_known'),
+        λ x ne is. let e : x ≡ word_in v.words.knows parent' Stamp = sym (known_is k.m.rows v.holds v.words.knows parent' Stamp x known is) ∙ known_word k.m.rows v.holds v.words.knows parent' Stamp x known is in
+            listed_more row' (word_in v.words.knows row' Stamp) parent' x _ (listed_more raised' (word_in v.words.knows raised' Stamp) parent' x _ (listed_here parent' x (word_in v.words.knows parent' Stamp) v.debt.list ne e)),
       ),
     )
   where

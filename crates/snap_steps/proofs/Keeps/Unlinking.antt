@@ -16,7 +16,7 @@ use Rattle.snap_rule.proofs.Table.{unlink_keeps, splice_keeps}
 use Rattle.snap_rule.proofs.Updates.{relink_same, relink_away}
 use Rattle.snap_rule.specs.Debt.{DebtOk, OwesNone}
 use Rattle.snap_rule.specs.Debt.Changes.{DebtDoing}
-use Rattle.snap_rule.specs.Debt.Lists.{Aims, aimed, noted}
+use Rattle.snap_rule.specs.Debt.Lists.{Aims, aimed, noted, taken}
 use Rattle.snap_rule.specs.Doing.{Concerns, DoingOk}
 use Rattle.snap_rule.specs.Kinds.Unlinking as kinds
 use Rattle.snap_rule.specs.Room.{HasRoom}
@@ -72,11 +72,11 @@ use Rattle.snap_steps.proofs.Tables.{Moves, in_times}
 use Rattle.snap_steps.proofs.Totals.{total-set, term_le, one_same}
 
 -- the debt by what is known of the parent
-aims_up : (s : Table) (n key x : ℕ) (l : List Mark) → (n ≡ 0) ⊎ (s.key n ≡ key) → (n ≡ 0) ⊎ (s.stamp n ≡ x) → aimed s n (noted s n l) ≡ aimed_at n key (listing n x l)
-aims_up s zero key x l a b = refl
-aims_up s (suc n) key x l (inl z) b = absurd (omega (arith, z))
-aims_up s (suc n) key x l (inr e) (inl z) = absurd (omega (arith, z))
-aims_up s (suc n) key x l (inr e) (inr f) = ap (λ k. aimed_at (suc n) k (listing (suc n) (s.stamp (suc n)) l)) e ∙ ap (λ y. aimed_at (suc n) key (listing (suc n) y l)) f
+aims_up : (s : Table) (n key x r : ℕ) (l : List Mark) → (n ≡ 0) ⊎ (s.key n ≡ key) → (n ≡ 0) ⊎ (s.stamp n ≡ x) → aimed s n (taken r (noted s n l)) ≡ aimed_at n key (taken r (listing n x l))
+aims_up s zero key x r l a b = refl
+aims_up s (suc n) key x r l (inl z) b = absurd (omega (arith, z))
+aims_up s (suc n) key x r l (inr e) (inl z) = absurd (omega (arith, z))
+aims_up s (suc n) key x r l (inr e) (inr f) = ap (λ k. aimed_at (suc n) k (taken r (listing (suc n) (s.stamp (suc n)) l))) e ∙ ap (λ y. aimed_at (suc n) key (taken r (listing (suc n) y l))) f
 
 no_turn : (n key : ℕ) (l : List Mark) → (aimed_at n key l).turning ≡ None
 no_turn zero key l = refl
@@ -102,15 +102,15 @@ upper_in s n d linked (inl z) pos = absurd (omega (arith, z.0))
 upper_in s n d linked (inr l) pos = linked n l
 
 -- `mark_unlinked`
-pub unlinks : (about : About) (slots id : ℕ) (me : Sat) (parent : ℕ) (p : Side) (r only key x : ℕ) → r ≤ about.rows → is_live me.0.role ≡ 1 → IsPair me.0 parent p r → IsRouting me.0 r only → IsKnown me.0.knows r Stamp x → x % 4 ≡ 0 → HasKey me.0 parent key → AimsNear me.0 parent r → me.0.doing ≡ Nothing
+pub unlinks : (about : About) (slots id : ℕ) (me : Sat) (parent : ℕ) (p : Side) (r only key x : ℕ) → r ≤ about.rows → is_live me.0.role ≡ 1 → IsPair me.0 parent p r → IsRouting me.0 r only → IsKnown me.0.words.knows r Stamp x → x % 4 ≡ 0 → HasKey me.0 parent key → AimsNear me.0 parent r → me.0.doing ≡ Nothing
     → Allows (Rule about) slots id me (word_at r Stamp) (λ _. x + 1) (λ _. unlinked_stored parent p r only key (step slots (word_at r Stamp) (x + 1) 0 maybe.none) me 0)
 unlinks about slots id me parent p r only key x low is_pass pair routing stamp_known unmarked key_known aims whole s k wide at small =
     let v : View = me.0 in let w : View = unlinked v parent p r only key (x + 1) in let rows_wide = k.memory.wide in let near : r < length k.m.rows = omega arith in
     let o : Row = with_field Stamp (x + 1) (row k.m.rows r) in let rows' : List Row = changed k.m.rows r Stamp (x + 1) in let st : Table = state_of k.m k.g in
     let known = k.known id v at in let present = (k.present id v at).0 in
-    let linked : (n : ℕ) → 0 < times n v.reached → In n k.g.linked = λ n. in_of k.g.linked v.reached n (k.reached id v at) in
-    let alive : (n : ℕ) → 0 < times n v.reached → IsBorn v n → IsLive st n = λ n l. born_live st k.m.rows k.m.epoch v n k.table refl refl refl known present (linked n l) in
-    let word : (n : ℕ) (f : Field) (y : ℕ) → IsKnown v.knows n f y → field f (row k.m.rows n) ≡ y = λ n f y. known_is k.m.rows v.holds v.knows n f y known in
+    let linked : (n : ℕ) → 0 < times n v.trail.reached → In n k.g.linked = λ n. in_of k.g.linked v.trail.reached n (k.reached id v at) in
+    let alive : (n : ℕ) → 0 < times n v.trail.reached → IsBorn v n → IsLive st n = λ n l. born_live st k.m.rows k.m.epoch v n k.table refl refl refl known present (linked n l) in
+    let word : (n : ℕ) (f : Field) (y : ℕ) → IsKnown v.words.knows n f y → field f (row k.m.rows n) ≡ y = λ n f y. known_is k.m.rows v.holds v.words.knows n f y known in
     let live : IsLive st r = alive r pair.reached pair.born in
     let parent_live : IsParent st parent p = ⊎_elim (λ z. inl z) (λ h. inr (alive parent h.0 h.1)) pair.upper in
     let writing : in_write v.stage ≡ 1 = let held = pair.held in omega (arith, k.locked.writing id v at r, in_write_le v.stage) in
@@ -146,9 +146,9 @@ unlinks about slots id me parent p r only key x low is_pass pair routing stamp_k
     let aims_at : (n : ℕ) → AimsAt v n → Aims st (debts_of s.views id) n = λ n h. (h.is_row, ap (λ (u : Debt). u.to_do) debt_at ∙ h.to_do ∙ ap Some (sym (word n Key h.key h.is_key))) in
     let owe : HasRoom st k.m.next about.rows → OwesNone st (debts_of s.views id) ⊎ Aims st (debts_of s.views id) r ⊎ Aims st (debts_of s.views id) parent = λ room.
     elim aims [ inl n ↦ inl (owes_none k id v at is_pass (inl n) room) | inr y ↦ elim y [ inl why ↦ inl (owes_none k id v at is_pass (inr why) room) | inr z ↦ elim z [ inl a ↦ inr (inl (aims_at r a)) | inr c ↦ inr (inr (aims_at parent c)) ] ] ] in
-    let parent_stamp : (parent ≡ 0) ⊎ (st.stamp parent ≡ word_in v.knows parent Stamp) = ⊎_elim (λ z. inl z.0) (λ h. let born = h.1 in inr (known_word k.m.rows v.holds v.knows parent Stamp born.stamp known born.is_stamp)) pair.upper in
+    let parent_stamp : (parent ≡ 0) ⊎ (st.stamp parent ≡ word_in v.words.knows parent Stamp) = ⊎_elim (λ z. inl z.0) (λ h. let born = h.1 in inr (known_word k.m.rows v.holds v.words.knows parent Stamp born.stamp known born.is_stamp)) pair.upper in
     let parent_key : (parent ≡ 0) ⊎ (st.key parent ≡ key) = ⊎_elim (λ z. inl z) (λ h. inr (word parent Key key h)) key_known in
-    let debt_is : aimed st parent (noted st parent (debts_of s.views id).list) ≡ w.debt = ap (λ (u : Debt). aimed st parent (noted st parent u.list)) debt_at ∙ aims_up st parent key (word_in v.knows parent Stamp) v.debt.list parent_key parent_stamp in
+    let debt_is : aimed st parent (taken r (noted st parent (debts_of s.views id).list)) ≡ w.debt = ap (λ (u : Debt). aimed st parent (taken r (noted st parent u.list))) debt_at ∙ aims_up st parent key (word_in v.words.knows parent Stamp) r v.debt.list parent_key parent_stamp in
     let heights = same_heights rows' near in (
       w,
       keeps,
@@ -160,8 +160,8 @@ unlinks about slots id me parent p r only key x low is_pass pair routing stamp_k
           (λ n c. subst (λ (y : ℕ). 0 < times y v.holds) (sym c) pair.held_parent)
           (λ j u ne there n c. theirs j u ne there n (k.held j u there n c))
           (locks_stay s.views id v at k.m.rows r o w k.locked refl near refl refl refl)
-          (each_others s.views id v at w (λ j u ne there. facts_elsewhere k.m.rows r o u.holds u.holds u.knows (k.known j u there) (others_apart s.views id v at k.m.rows r k.locked pair.held j u ne there) (λ y. omega arith))
-          (ap (λ (y : Row). y.stamp) (row_same k.m.rows r o near), pair.held, facts_left k.m.rows r Stamp (x + 1) v.holds v.knows near known))
+          (each_others s.views id v at w (λ j u ne there. facts_elsewhere k.m.rows r o u.holds u.holds u.words.knows (k.known j u there) (others_apart s.views id v at k.m.rows r k.locked pair.held j u ne there) (λ y. omega arith))
+          (ap (λ (y : Row). y.stamp) (row_same k.m.rows r o near), pair.held, facts_left k.m.rows r Stamp (x + 1) v.holds v.words.knows near known))
           (k.reached id v at)
           (apart_changed s.views id v w at k.m.next k.m.rows k.g.linked k.apart (λ u j there. omega (arith, k.drawn.none_zero, term_le (times_drawn 0) s.views j u there)) r o
           (λ y pos z ne. let q = row_other k.m.rows r y o ne in let f = k.apart.fresh y pos z in (ap (λ (i : Row). i.lock) q ∙ f.0, ap (λ (i : Row). i.stamp) q ∙ f.1)) (λ pos. in_times r k.g.linked (linked r pair.reached)) refl refl refl)
@@ -172,7 +172,7 @@ unlinks about slots id me parent p r only key x low is_pass pair routing stamp_k
             heights_where (λ n. n ≢ parent) (λ n. n ≢ r) st s' v.holds w.heights (λ n c a e. leaves_apart st s' n (moves.0.2 n (a, e)) heights)
                 (rows_still (λ n. n ≢ parent) (heights_forgotten v.heights parent) r (rows_but v.heights parent)) (rows_but (heights_forgotten v.heights parent) r)
                 (heights_fewer st r v.holds (heights_forgotten v.heights parent) (heights_fewer st parent v.holds v.heights (k.heights id v at))),
-            (no_turn parent key (listing parent (word_in v.knows parent Stamp) v.debt.list), (λ z. absurd (omega (arith, z, writing)))),
+            (no_turn parent key (taken r (listing parent (word_in v.words.knows parent Stamp) v.debt.list)), (λ z. absurd (omega (arith, z, writing)))),
             λ room ok. subst (λ (z : Table). DebtOk z (updates.changed (debts_of s.views) id w.debt)) (sym path)
                 (subst (λ (u : Debt). DebtOk marked_st (updates.changed (debts_of s.views) id u)) debt_is
                 (unlink_owes st (debts_of s.views) id parent p r k.table ok may (owe room) (held_free k id v at parent pair.held_parent))),
@@ -219,8 +219,8 @@ splices about slots id me parent p r only low change s k wide at small =
           (λ n c. absurd c)
           (λ j u ne there n c. theirs j u ne there n (k.held j u there n c))
           (locks_stay s.views id v at k.m.rows parent o w k.locked (field_other Lock f only (row k.m.rows parent) (λ z. no_lock p (sym z))) near refl refl refl)
-          (each_others s.views id v at w (λ j u ne there. facts_elsewhere k.m.rows parent o u.holds u.holds u.knows (k.known j u there) (others_apart s.views id v at k.m.rows parent k.locked held j u ne there) (λ y. omega arith))
-          (ap (field f) (row_same k.m.rows parent o near) ∙ field_same f only (row k.m.rows parent), held, facts_left k.m.rows parent f only v.holds v.knows near (k.known id v at)))
+          (each_others s.views id v at w (λ j u ne there. facts_elsewhere k.m.rows parent o u.holds u.holds u.words.knows (k.known j u there) (others_apart s.views id v at k.m.rows parent k.locked held j u ne there) (λ y. omega arith))
+          (ap (field f) (row_same k.m.rows parent o near) ∙ field_same f only (row k.m.rows parent), held, facts_left k.m.rows parent f only v.holds v.words.knows near (k.known id v at)))
           (k.reached id v at)
           (apart_changed s.views id v w at k.m.next k.m.rows k.g.linked k.apart (λ u j there. omega (arith, k.drawn.none_zero, term_le (times_drawn 0) s.views j u there)) parent o
           (λ y pos z ne. let q = row_other k.m.rows parent y o ne in let h = k.apart.fresh y pos z in (ap (λ (i : Row). i.lock) q ∙ h.0, ap (λ (i : Row). i.stamp) q ∙ h.1)) (λ pos. in_times parent k.g.linked (upper_in st parent p (λ m l. (k.table.tree.rows m l.stands).0) may.0.parent_live pos)) refl refl refl)

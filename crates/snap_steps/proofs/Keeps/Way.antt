@@ -169,14 +169,14 @@ lasts s h k b ConfirmedNone x = tt
 lasts s h k b (Matched c) x = tt
 
 -- `load_next_word`
-pub reads_on : (about : About) (slots id : ℕ) (me : Sat) (r : ℕ) (f : Field) (key : ℕ) (point : Point) → r ≤ about.rows → me.0.role ≡ Passing → me.0.reads ≡ On key point → IsNext point r f → Allows (Rule about) slots id me (word_at r f) (λ n. n) (next_read (step slots (word_at r f) 0 0 maybe.none) me)
+pub reads_on : (about : About) (slots id : ℕ) (me : Sat) (r : ℕ) (f : Field) (key : ℕ) (point : Point) → r ≤ about.rows → me.0.role ≡ Passing → me.0.way.reads ≡ On key point → IsNext point r f → Allows (Rule about) slots id me (word_at r f) (λ n. n) (next_read (step slots (word_at r f) 0 0 maybe.none) me)
 reads_on about slots id me r f key point low passing stands next s k wide at small =
     let v : View = me.0 in let found : ℕ = get_or s.words (word_at r f) 0 in let is : found ≡ field f (row k.m.rows r) = cell_is k.memory r f low in let w : View = read_on v found in
     let seen = k.history.seen id v at in let way : PointOk (state_of k.m k.g) v.seen key point = subst (ReadingOk (state_of k.m k.g) v.seen) stands (k.ways id v at) in
     let after : IsOnWay (state_of k.m k.g) w = subst (λ y. ReadingOk (state_of k.m k.g) v.seen (goes_on y found)) (sym stands) (steps_on k.m k.g k.table v.seen key seen.0 point r f found way next (sym is)) in
-    let come : AllLinked k.g.linked (comes_to v.reads found) = subst (λ y. AllLinked k.g.linked (comes_to y found)) (sym stands) (comes_in k.m k.g k.table v.seen key point r f found way next (sym is)) in
-    let reached : AllLinked k.g.linked w.reached = in_append k.g.linked v.reached (comes_to v.reads found) (k.reached id v at) come in
-    (w, keeps, tt, seeing about s.words s.views k (word_at r f) id v w at (k.known id v at) reached after (place_goes (state_of k.m k.g) v.seen v.reads v.place (k.ways id v at) (k.places id v at)) (k.present id v at) (k.notes id v at) (k.worn id v at) (k.lasting id v at) (begins_itself v.seen) seen.0 seen.1, (refl, subst (λ y. BoundAt v.rows y found) (sym stands) (bounds k.m k.g k.table v.rows v.seen key point r f found (λ y is_there. let l = k.apart.low y (in_times y k.g.linked is_there) in let a = (k.about_known id v at (ap is_live passing)).0 in let top = k.memory.room in omega (arith, l.1)) way next (sym is))))
+    let come : AllLinked k.g.linked (comes_to v.way.reads found) = subst (λ y. AllLinked k.g.linked (comes_to y found)) (sym stands) (comes_in k.m k.g k.table v.seen key point r f found way next (sym is)) in
+    let reached : AllLinked k.g.linked w.trail.reached = in_append k.g.linked v.trail.reached (comes_to v.way.reads found) (k.reached id v at) come in
+    (w, keeps, tt, seeing about s.words s.views k (word_at r f) id v w at (k.known id v at) reached after (place_goes (state_of k.m k.g) v.seen v.way.reads v.way.place (k.ways id v at) (k.places id v at)) (k.present id v at) (k.notes id v at) (k.worn id v at) (k.lasting id v at) (begins_itself v.seen) seen.0 seen.1, (refl, subst (λ y. BoundAt v.rows y found) (sym stands) (bounds k.m k.g k.table v.rows v.seen key point r f found (λ y is_there. let l = k.apart.low y (in_times y k.g.linked is_there) in let a = (k.about_known id v at (ap is_live passing)).0 in let top = k.memory.room in omega (arith, l.1)) way next (sym is))))
 
 -- what the reader's last word tells: a history between what the pass has seen and the whole
 pub record Answered (v log : List Entry) (k : ℕ) (t : Point) (x : ℕ) : Type 0 where
@@ -201,7 +201,7 @@ answers m g seen k (Matched c) r f x b h at is =
     record { moment = a.moment; from = a.later; to = a.made; tells = ap value_of (sym is ∙ (λ i. word_of m (at.0 i) (at.1 i))) ∙ a.holds }
 
 -- `load_last_word`
-pub reads_last : (about : About) (slots id : ℕ) (me : Sat) (r : ℕ) (f : Field) (key : ℕ) (point : Point) → r ≤ about.rows → me.0.role ≡ Passing → me.0.joined ≡ [] → me.0.reads ≡ On key point → IsLast point r f → Allows (Rule about) slots id me (word_at r f) (λ n. n) (answer_read (step slots (word_at r f) 0 0 maybe.none) me)
+pub reads_last : (about : About) (slots id : ℕ) (me : Sat) (r : ℕ) (f : Field) (key : ℕ) (point : Point) → r ≤ about.rows → me.0.role ≡ Passing → me.0.joined ≡ [] → me.0.way.reads ≡ On key point → IsLast point r f → Allows (Rule about) slots id me (word_at r f) (λ n. n) (answer_read (step slots (word_at r f) 0 0 maybe.none) me)
 reads_last about slots id me r f key point low passing alone stands last s k wide at small =
     let v : View = me.0 in let found : ℕ = get_or s.words (word_at r f) 0 in let is : found ≡ field f (row k.m.rows r) = cell_is k.memory r f low in
     let seen = k.history.seen id v at in let own = (k.history.mine id v at).0 (ap is_counted passing) in

@@ -89,13 +89,13 @@ absent_owed {views = views} k id v at e moves =
     )
 
 -- `store_value`
-pub stores : (about : About) (slots id : ℕ) (me : Sat) (r key new : ℕ) → r ≤ about.rows → me.0.role ≡ Passing → me.0.stage ≡ Writing false false → 0 < times r me.0.holds → 0 < times r me.0.reached → IsKnown me.0.knows r Key key → IsBorn me.0 r → me.0.doing ≡ Nothing → OwesNothing me.0
+pub stores : (about : About) (slots id : ℕ) (me : Sat) (r key new : ℕ) → r ≤ about.rows → me.0.role ≡ Passing → me.0.stage ≡ Writing false false → 0 < times r me.0.holds → 0 < times r me.0.trail.reached → IsKnown me.0.words.knows r Key key → IsBorn me.0 r → me.0.doing ≡ Nothing → OwesNothing me.0
     → Allows (Rule about) slots id me (word_at r Value) (λ _. new) (value_stored (step slots (word_at r Value) new 0 maybe.none) me)
 stores about slots id me r key new low passing writing held reached key_known born whole owes s k wide at small =
     let v : View = me.0 in let found : ℕ = get_or s.words (word_at r Value) 0 in let is : found ≡ (row k.m.rows r).value = cell_is k.memory r Value low in let rows_wide = k.memory.wide in
     let near : r < length k.m.rows = omega arith in let x : Row = with_field Value new (row k.m.rows r) in let rows' : List Row = changed k.m.rows r Value new in
-    let is_key : (row k.m.rows r).key ≡ key = known_is k.m.rows v.holds v.knows r Key key (k.known id v at) key_known in
-    let is_linked : In r k.g.linked = in_of k.g.linked v.reached r (k.reached id v at) reached in
+    let is_key : (row k.m.rows r).key ≡ key = known_is k.m.rows v.holds v.words.knows r Key key (k.known id v at) key_known in
+    let is_linked : In r k.g.linked = in_of k.g.linked v.trail.reached r (k.reached id v at) reached in
     let st : Table = state_of k.m k.g in
     let live : IsLive st r = born_live st k.m.rows k.m.epoch v r k.table refl refl refl (k.known id v at) (k.present id v at).0 is_linked born in
     let e : Entry = entry v.who (call_of key new) (value_of found) in let w : View = stored v k.g.history e r new in
@@ -110,23 +110,23 @@ stores about slots id me r key new low passing writing held reached key_known bo
       w,
       keeps,
       tt,
-      entering about s.words s.views k id v at (set s.words (word_at r Value) new) rows' e b v.reached v.own v.wrote (fact r Value new ∷ forgotten v.knows r Value) w.debt Anywhere (k.reached id v at) (cell_set k.memory r Value low new) passing writing refl reply moves (λ n d. refl) (λ j u there n c. tt)
+      entering about s.words s.views k id v at (set s.words (word_at r Value) new) rows' e b v.trail.reached v.fresh.own v.fresh.wrote (fact r Value new ∷ forgotten v.words.knows r Value) w.debt Anywhere (k.reached id v at) (cell_set k.memory r Value low new) passing writing refl reply moves (λ n d. refl) (λ j u there n c. tt)
           (locks_stay s.views id v at k.m.rows r x w k.locked refl near refl refl (sym (ap in_write writing)))
-          (each_others s.views id v at w (λ j u ne there. facts_elsewhere k.m.rows r x u.holds u.holds u.knows (k.known j u there) (others_apart s.views id v at k.m.rows r k.locked held j u ne there) (λ y. omega arith))
-          (ap (λ (y : Row). y.value) (row_same k.m.rows r x near), held, facts_left k.m.rows r Value new v.holds v.knows near (k.known id v at)))
+          (each_others s.views id v at w (λ j u ne there. facts_elsewhere k.m.rows r x u.holds u.holds u.words.knows (k.known j u there) (others_apart s.views id v at k.m.rows r k.locked held j u ne there) (λ y. omega arith))
+          (ap (λ (y : Row). y.value) (row_same k.m.rows r x near), held, facts_left k.m.rows r Value new v.holds v.words.knows near (k.known id v at)))
           (apart_changed s.views id v w at k.m.next k.m.rows k.g.linked k.apart (λ u j there. omega (arith, k.drawn.none_zero, term_le (times_drawn 0) s.views j u there)) r x
           (λ y pos z ne. let q = row_other k.m.rows r y x ne in let f = k.apart.fresh y pos z in (ap (λ (o : Row). o.lock) q ∙ f.0, ap (λ (o : Row). o.stamp) q ∙ f.1)) (λ pos. in_times r k.g.linked is_linked) refl refl refl)
           (stamps_same k.m.rows r x near refl) (
             (λ j u ne there n c. leaves_apart st s' n (moves.2 n tt) (heights_same k.m.rows r x near refl)),
             subst (λ (g : Doing). DebtDoing s' g w.debt) (sym whole) (no_turn (call_key (call_of key new)) new (subst (λ (g : Doing). DebtDoing st g v.debt) whole (k.debts id v at).0)),
             λ room ok. subst (λ (z : Table). DebtOk z (updates.changed (debts_of s.views) id w.debt)) (sym path)
-                (subst (λ (u : Debt). DebtOk (entry_kinds.value_stored st r e) (updates.changed (debts_of s.views) id u)) (debt_is st (call_key (call_of key new)) new (debts_of s.views id) (debts_at s.views id v at) (known_word k.m.rows v.holds v.knows r Stamp born.stamp (k.known id v at) born.is_stamp))
+                (subst (λ (u : Debt). DebtOk (entry_kinds.value_stored st r e) (updates.changed (debts_of s.views) id u)) (debt_is st (call_key (call_of key new)) new (debts_of s.views id) (debts_at s.views id v at) (known_word k.m.rows v.holds v.words.knows r Stamp born.stamp (k.known id v at) born.is_stamp))
                 (store_owes st (debts_of s.views) id r e k.table ok may (held_free k id v at r held) (λ _. owes_none k id v at (ap is_live passing) owes room))),
           ),
       λ r' same. let at_row = one_word r r' Value Value same in (
         key,
-        (λ y there. sym (known_is k.m.rows v.holds v.knows r Key y (k.known id v at) (subst (λ z. IsKnown v.knows z Key y) (sym at_row.0) there)) ∙ is_key),
-        (λ y there. is ∙ known_is k.m.rows v.holds v.knows r Value y (k.known id v at) (subst (λ z. IsKnown v.knows z Value y) (sym at_row.0) there)),
+        (λ y there. sym (known_is k.m.rows v.holds v.words.knows r Key y (k.known id v at) (subst (λ z. IsKnown v.words.knows z Key y) (sym at_row.0) there)) ∙ is_key),
+        (λ y there. is ∙ known_is k.m.rows v.holds v.words.knows r Value y (k.known id v at) (subst (λ z. IsKnown v.words.knows z Value y) (sym at_row.0) there)),
         k.g.history,
         record { goes_on = seen.0; legal = legal_more k.g.history e k.history.legal reply; own = sym own.0 },
         ap (λ (z : ℕ). (stored v k.g.history e z new, me.1)) at_row.0,
@@ -137,19 +137,19 @@ stores about slots id me r key new low passing writing held reached key_known bo
     no_turn a zero h = refl
     no_turn a (suc n) h = h
 
-    debt_is : (t : Table) (a n : ℕ) (u : Debt) → u ≡ me.0.debt → t.stamp r ≡ Rattle.snap_steps.specs.Facts.word_in me.0.knows r Stamp → stored_debt t r a (call_value (call_of key n)) u ≡ value_debt me.0 a r n
-    debt_is t a zero u same is_stamp = ap (λ l. debt_with a l) (listing_is t r (Rattle.snap_steps.specs.Facts.word_in me.0.knows r Stamp) [] is_stamp)
+    debt_is : (t : Table) (a n : ℕ) (u : Debt) → u ≡ me.0.debt → t.stamp r ≡ Rattle.snap_steps.specs.Facts.word_in me.0.words.knows r Stamp → stored_debt t r a (call_value (call_of key n)) u ≡ value_debt me.0 a r n
+    debt_is t a zero u same is_stamp = ap (λ l. debt_with a l) (listing_is t r (Rattle.snap_steps.specs.Facts.word_in me.0.words.knows r Stamp) [] is_stamp)
     debt_is t a (suc n) u same is_stamp = same
 
 -- `confirm_absent`
-pub confirms : (about : About) (slots id : ℕ) (me : Sat) (r key : ℕ) → r ≤ about.rows → me.0.role ≡ Passing → me.0.stage ≡ Writing false false → 0 < times r me.0.reached → IsKnown me.0.knows r Key key → IsKnown me.0.knows r Value 0 → IsBorn me.0 r
+pub confirms : (about : About) (slots id : ℕ) (me : Sat) (r key : ℕ) → r ≤ about.rows → me.0.role ≡ Passing → me.0.stage ≡ Writing false false → 0 < times r me.0.trail.reached → IsKnown me.0.words.knows r Key key → IsKnown me.0.words.knows r Value 0 → IsBorn me.0 r
     → Allows (Rule about) slots id me (word_at r Value) (λ n. n) (absent_confirmed key (step slots (word_at r Value) 0 0 maybe.none) me)
 confirms about slots id me r key low passing writing reached key_known value_known born s k wide at small =
     let v : View = me.0 in let known = k.known id v at in let st : Table = state_of k.m k.g in
     let e : Entry = entry v.who (Remove key) None in let w : View = made_entry v k.g.history e in
-    let is_key : (row k.m.rows r).key ≡ key = known_is k.m.rows v.holds v.knows r Key key known key_known in
-    let is_zero : (row k.m.rows r).value ≡ 0 = known_is k.m.rows v.holds v.knows r Value 0 known value_known in
-    let live : IsLive st r = born_live st k.m.rows k.m.epoch v r k.table refl refl refl known (k.present id v at).0 (in_of k.g.linked v.reached r (k.reached id v at) reached) born in
+    let is_key : (row k.m.rows r).key ≡ key = known_is k.m.rows v.holds v.words.knows r Key key known key_known in
+    let is_zero : (row k.m.rows r).value ≡ 0 = known_is k.m.rows v.holds v.words.knows r Value 0 known value_known in
+    let live : IsLive st r = born_live st k.m.rows k.m.epoch v r k.table refl refl refl known (k.present id v at).0 (in_of k.g.linked v.trail.reached r (k.reached id v at) reached) born in
     let absent : find k.g.tree key ≡ None = ap (find k.g.tree) (sym is_key) ∙ absent_here st r k.table live is_zero in
     let none_there : told k.g.history key ≡ None = sym (k.table.tree.tells key) ∙ absent in
     let may : entry_kinds.MayConfirmAbsent st e = record { removal = refl; absent = absent } in
@@ -158,7 +158,7 @@ confirms about slots id me r key low passing writing reached key_known value_kno
       w,
       keeps,
       tt,
-      entering about s.words s.views k id v at (set s.words (word_at r Value) (get_or s.words (word_at r Value) 0)) k.m.rows e k.g v.reached v.own v.wrote v.knows v.debt Anywhere (k.reached id v at) (loaded k.memory (word_at r Value)) passing writing refl (sym none_there) moves (λ n d. refl) (λ j u there n c. tt)
+      entering about s.words s.views k id v at (set s.words (word_at r Value) (get_or s.words (word_at r Value) 0)) k.m.rows e k.g v.trail.reached v.fresh.own v.fresh.wrote v.words.knows v.debt Anywhere (k.reached id v at) (loaded k.memory (word_at r Value)) passing writing refl (sym none_there) moves (λ n d. refl) (λ j u there n c. tt)
           (locked_stays s.views id v w at k.m.rows k.locked refl refl (λ x. omega (arith, k.locked.writing id v at x, ap in_write writing)))
           (each_stays s.views id v w at (KnowsRows k.m.rows) k.known (λ p. p))
           (apart_stays s.views id v w at k.m.next k.m.next k.m.rows k.g.linked k.apart (omega arith) (λ p. p) (λ p. p)) (λ n. refl) (absent_owed k id v at e moves),
@@ -177,7 +177,7 @@ counts_done about slots id me writing s k wide at small =
       w,
       keeps,
       tt,
-      turning about s.words s.views k id v at (set s.words 3 new) (record k.m { done = new }) v.notes v.handed v.epochs (Writing true true) v.uses v.present v.copies v.debt v.reads v.place (done_set k.memory new) refl refl (k.notes id v at) (omega (arith, o)) (omega (arith, q)) refl (λ x. omega (arith, k.locked.writing id v at x, a)) ((k.present id v at).0, λ z. absurd (omega (arith, z)))
+      turning about s.words s.views k id v at (set s.words 3 new) (record k.m { done = new }) v.noted.notes v.noted.handed v.noted.epochs (Writing true true) v.uses v.words.present v.fresh.copies v.debt v.way.reads v.way.place (done_set k.memory new) refl refl (k.notes id v at) (omega (arith, o)) (omega (arith, q)) refl (λ x. omega (arith, k.locked.writing id v at x, a)) ((k.present id v at).0, λ z. absurd (omega (arith, z)))
           (gated_moves s.views id v w at k.m.gate k.m.left k.m.gate k.m.left g (omega arith) (omega (arith, g.one)) (λ some. absurd (omega (arith, g.quiet (omega (arith, total-set (λ u. is_quiet u.stage) s.views id v w at)))))
           (each_stays s.views id v w at (λ u. IsAt k.m.gate u.stage) g.at (λ p. tt)))
           (used_moves s.views id v w at k.m.gate k.m.epoch k.m.gate k.m.epoch k.used refl refl refl (omega (arith, c)) (k.used.few id v at).0) (omega arith) (λ z. omega (arith, a)) (λ z. absurd (omega (arith, a, ap in_write (k.acting id v at z).0))) (λ z. absurd (omega (arith, z)))

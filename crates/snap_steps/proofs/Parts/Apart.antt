@@ -27,11 +27,11 @@ none_own linked own drawn r zero_drawn p is none = dite (ℕ_discrete (times r o
 
 -- a linked row or row 0 has another word
 pub apart_changed : (views : List View) (id : ℕ) (v w : View) (at : get_elem? views id ≡ some v) (next : ℕ) (rows : List Row) (linked : List ℕ) → AreApart next rows linked views → ((u : View) (j : ℕ) → get_elem? views j ≡ some u → times 0 u.drawn ≡ 0) → (r : ℕ) (x : Row)
-    → ((s : ℕ) → 0 < s → times s linked ≡ 0 → s ≢ r → ((row (set rows r x) s).lock ≡ 0) × ((row (set rows r x) s).stamp ≡ 0)) → (0 < r → 0 < times r linked) → w.own ≡ v.own → w.drawn ≡ v.drawn → w.wrote ≡ v.wrote → AreApart next (set rows r x) linked (set views id w)
+    → ((s : ℕ) → 0 < s → times s linked ≡ 0 → s ≢ r → ((row (set rows r x) s).lock ≡ 0) × ((row (set rows r x) s).stamp ≡ 0)) → (0 < r → 0 < times r linked) → w.fresh.own ≡ v.fresh.own → w.drawn ≡ v.drawn → w.fresh.wrote ≡ v.fresh.wrote → AreApart next (set rows r x) linked (set views id w)
 apart_changed views id v w at next rows linked h zeros r x fresh is own drawn wrote = record {
   low = h.low;
   own = each_stays views id v w at (IsOwn linked) h.own (λ p s l. let q = p s (omega (arith, l, ap (times s) own)) in (q.0, omega (arith, q.1, ap (times s) drawn)));
   fresh = λ s pos z. fresh s pos z (λ e. omega (arith, z, ap (λ (y : ℕ). times y linked) e, is (omega arith)));
-  wrote = each_others views id v at w (λ j u ne there. facts_but rows r x u.own u.wrote (none_own linked u.own u.drawn r 0 (h.own j u there) is (zeros u j there)) (h.wrote j u there))
-      (subst (λ l. AreFacts (set rows r x) w.own l) (sym wrote) (subst (λ l. AreFacts (set rows r x) l v.wrote) (sym own) (facts_but rows r x v.own v.wrote (none_own linked v.own v.drawn r 0 (h.own id v at) is (zeros v id at)) (h.wrote id v at))));
+  wrote = each_others views id v at w (λ j u ne there. facts_but rows r x u.fresh.own u.fresh.wrote (none_own linked u.fresh.own u.drawn r 0 (h.own j u there) is (zeros u j there)) (h.wrote j u there))
+      (subst (λ l. AreFacts (set rows r x) w.fresh.own l) (sym wrote) (subst (λ l. AreFacts (set rows r x) l v.fresh.wrote) (sym own) (facts_but rows r x v.fresh.own v.fresh.wrote (none_own linked v.fresh.own v.drawn r 0 (h.own id v at) is (zeros v id at)) (h.wrote id v at))));
 }

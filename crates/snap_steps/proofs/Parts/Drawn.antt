@@ -41,5 +41,5 @@ module _ (views : List View) (id : ℕ) (v w : View) (at : get_elem? views id �
       }
 
 -- a row that one pass drew is no own row of another
-pub not_theirs : {next : ℕ} {A : Type 0} (views : List View) (id : ℕ) (v u : View) → get_elem? views id ≡ some v → (j : ℕ) → j ≢ id → get_elem? views j ≡ some u → (r : ℕ) → AreDrawn next views → 0 < times r v.drawn → (0 < times r u.own → A × (0 < times r u.drawn)) → times r u.own ≡ 0
-not_theirs {next} views id v u at j ne there r drawn mine own = dite (ℕ_discrete (times r u.own) 0) (λ z. z) (λ nz. absurd (omega (arith, (own (omega arith)).1, drawn_once next views drawn r, terms_le (times_drawn r) views id j v u ne at there)))
+pub not_theirs : {next : ℕ} {A : Type 0} (views : List View) (id : ℕ) (v u : View) → get_elem? views id ≡ some v → (j : ℕ) → j ≢ id → get_elem? views j ≡ some u → (r : ℕ) → AreDrawn next views → 0 < times r v.drawn → (0 < times r u.fresh.own → A × (0 < times r u.drawn)) → times r u.fresh.own ≡ 0
+not_theirs {next} views id v u at j ne there r drawn mine own = dite (ℕ_discrete (times r u.fresh.own) 0) (λ z. z) (λ nz. absurd (omega (arith, (own (omega arith)).1, drawn_once next views drawn r, terms_le (times_drawn r) views id j v u ne at there)))

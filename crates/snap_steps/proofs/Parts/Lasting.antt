@@ -46,8 +46,8 @@ all_evolve : (s s' : Table) → Evolves s s' → (l : List Fact) → AreLasting 
 all_evolve s s' ev [] h = tt
 all_evolve s s' ev (x ∷ xs) h = (lasting_evolves s s' ev x h.0, all_evolve s s' ev xs h.1)
 
-pub lastings_evolve : (s s' : Table) (views : List View) → Evolves s s' → Each (λ v. AreLasting s v.lasting) views → Each (λ v. AreLasting s' v.lasting) views
-lastings_evolve s s' views ev h j u at = all_evolve s s' ev u.lasting (h j u at)
+pub lastings_evolve : (s s' : Table) (views : List View) → Evolves s s' → Each (λ v. AreLasting s v.words.lasting) views → Each (λ v. AreLasting s' v.words.lasting) views
+lastings_evolve s s' views ev h j u at = all_evolve s s' ev u.words.lasting (h j u at)
 
 -- a word of the memory
 pub word_is : (m : Memory) (g : Beside) (r : ℕ) (f : Field) → word_of (state_of m g) r f ≡ field f (row m.rows r)

@@ -63,7 +63,7 @@ place_known_evolves s s' ev (On k ConfirmedNone) h = tt
 place_known_evolves s s' ev (On k (Matched c)) h = tt
 
 pub places_evolve : (s s' : Table) (views : List View) → Evolves s s' → Each (KnowsPlace s) views → Each (KnowsPlace s') views
-places_evolve s s' views ev h j u at = place_known_evolves s s' ev u.place (h j u at)
+places_evolve s s' views ev h j u at = place_known_evolves s s' ev u.way.place (h j u at)
 
 -- where a reader stands is a place
 pub standing_place : (s : Table) (seen : List Entry) (k n v : ℕ) (d : Side) → IsStanding s seen k n v d → IsPlace s k n v d

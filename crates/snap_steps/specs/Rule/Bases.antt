@@ -24,16 +24,20 @@ HasCause s Settled = Unit {0}
 HasCause s RowsOut = Unit {0}
 HasCause s (StampOut row) = IsOut s row
 
--- the tree is the image of its root, its rows are shared, and it tells the map after a beginning of the history
+-- the tree is the image of its root, its rows are shared, and it tells the map after a beginning of
+-- the history
 pub record IsBase (s : Table) (base : Base) : Type 0 where
   pub begins : Begins base.history s.history
   pub image : IsImage s (root (tree_of base.parts)) (tree_of base.parts)
   pub clone : IsCloneOf base.history (tree_of base.parts)
   pub cause : HasCause s base.balance
 
--- once a closing pass has cut, no write is in progress, the table's root is still the clone's, and its history is still the clone's
+-- once a closing pass has cut, no write is in progress, the table's root is still the clone's, and
+-- its history is still the clone's
 abbrev pub StandsStill : Table → Stage → Base → Type 0
-StandsStill s stage base = has_cut stage ≡ 1 → (is_quiet stage ≡ 1) × (s.link 0 Right ≡ root (tree_of base.parts)) × (s.history ≡ base.history)
+StandsStill s stage base = has_cut stage ≡ 1
+    → (is_quiet stage ≡ 1) × (s.link 0 Right ≡ root (tree_of base.parts))
+    × (s.history ≡ base.history)
 
 abbrev pub KnowsBase : Table → View → Type 0
 KnowsBase s v = IsBase s v.base × StandsStill s v.stage v.base

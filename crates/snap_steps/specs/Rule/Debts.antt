@@ -1,4 +1,5 @@
--- The part of the rule on repair debt: as long as there is room, each row of the tree is settled or owed by a pass.
+-- The part of the rule on repair debt: as long as there is room, each row of the tree is settled or
+-- owed by a pass.
 use Rattle.std.specs.Prelude.{◌≡◌, ℕ, zero, suc, List, [], ◌∷◌}
 use Rattle.snap_rule.specs.Debt.{no_debt}
 use Rattle.snap_rule.specs.Debt.Changes.{DebtDoing}

@@ -4,7 +4,8 @@ use Rattle.snap_steps.specs.Counting.{total}
 use Rattle.snap_steps.specs.Numbers.{all_drawn, times_drawn}
 use Rattle.snap_steps.specs.declared.view.View.{View}
 
--- each row from 1 to next stands once in what passes, receipts and admitted numbers drew, no other row does, and so many were drawn
+-- each row from 1 to next stands once in what passes, receipts and admitted numbers drew, no other
+-- row does, and so many were drawn
 pub record AreDrawn (next : ℕ) (views : List View) : Type 0 where
   pub once : (r : ℕ) → 0 < r → r ≤ next → total (times_drawn r) views ≡ 1
   pub none_later : (r : ℕ) → next < r → total (times_drawn r) views ≡ 0

@@ -10,4 +10,4 @@ AllAre e (x ∷ xs) = (x ≡ e) × AllAre e xs
 
 -- what was loaded as the epoch in this write is it
 abbrev pub KnowsEpoch : ℕ → View → Type 0
-KnowsEpoch e v = AllAre e v.present × (in_write v.stage ≡ 0 → v.present ≡ [])
+KnowsEpoch e v = AllAre e v.words.present × (in_write v.stage ≡ 0 → v.words.present ≡ [])

@@ -15,7 +15,8 @@ IsAt gate (Closing g quiet cut) = g ≡ gate
 
 -- twice the writes entered, plus 1 while closed
 pub record IsGated (gate left : ℕ) (views : List View) : Type 0 where
-  pub half : gate ≡ 2 * (left + total (λ v. in_write v.stage) views) + total (λ v. is_closing v.stage) views
+  pub half : gate
+      ≡ 2 * (left + total (λ v. in_write v.stage) views) + total (λ v. is_closing v.stage) views
   pub one : total (λ v. is_closing v.stage) views ≤ 1
   pub at : Each (λ v. IsAt gate v.stage) views
   pub quiet : 0 < total (λ v. is_quiet v.stage) views → total (λ v. in_write v.stage) views ≡ 0

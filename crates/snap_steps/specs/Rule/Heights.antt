@@ -1,4 +1,5 @@
--- The part of the rule on heights: what a pass loaded of the heights below a row that it holds is so.
+-- The part of the rule on heights: what a pass loaded of the heights below a row that it holds is
+-- so.
 use Rattle.std.specs.Prelude.{◌≡◌, ℕ, List, [], ◌∷◌}
 use Rattle.snap_rule.specs.Rule.{IsLive}
 use Rattle.snap_rule.specs.Settled.{child_height}

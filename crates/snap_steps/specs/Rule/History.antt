@@ -1,4 +1,5 @@
--- The part of the rule on the history: it is legal, what passes have seen begins it, and each number has its own entries.
+-- The part of the rule on the history: it is legal, what passes have seen begins it, and each
+-- number has its own entries.
 use Rattle.std.specs.Prelude.{List, [], ◌∷◌, ◌≡◌, ℕ, length, ◌<◌}
 use Rattle.snap_model.specs.History.{Begins, calls_of, IsLegal}
 use Rattle.snap_model.specs.declared.call.Entry.{Entry}
@@ -25,9 +26,14 @@ AreTheirs log (a ∷ more) = (a.mine ≡ calls_of log a.who) × AreTheirs log mo
 
 -- what a pass calls its own is what the history has of it, and so has what it has seen
 abbrev pub IsTrueOf : List Entry → View → Type 0
-IsTrueOf log v = (is_counted v.role ≡ 1 → (v.mine ≡ calls_of log v.who) × (calls_of v.seen v.who ≡ calls_of log v.who)) × AreTheirs log v.admitted × AreTheirs v.seen v.admitted
+IsTrueOf log v =
+    (is_counted v.role ≡ 1
+    → (v.mine ≡ calls_of log v.who) × (calls_of v.seen v.who ≡ calls_of log v.who))
+    × AreTheirs log v.admitted
+    × AreTheirs v.seen v.admitted
 
--- whether a seat has seen this many entries of as many: a pass, or, where there are none, the seat that hands out the passes
+-- whether a seat has seen this many entries of as many: a pass, or, where there are none, the seat
+-- that hands out the passes
 abbrev pub saw_all : Role → ℕ → ℕ → ℕ
 saw_all Opening seen all = one_if 0 all
 saw_all Passing seen all = one_if seen all

@@ -1,4 +1,5 @@
--- The part of the rule on words that change no more: births of rows that were linked, and the words of shared rows.
+-- The part of the rule on words that change no more: births of rows that were linked, and the words
+-- of shared rows.
 use Rattle.std.specs.Prelude.{◌≡◌, ◌≢◌, ◌⊎◌, ℕ, List, [], ◌∷◌}
 use Rattle.snap_rule.specs.State.{State as Table, IsShared}
 use Rattle.snap_stamp.specs.declared.layout.Field.{Field}

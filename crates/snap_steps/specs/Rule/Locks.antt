@@ -21,4 +21,4 @@ pub record AreLocked (rows : List Row) (views : List View) : Type 0 where
   pub writing : Each (λ v. (r : ℕ) → times r v.holds ≤ in_write v.stage) views
 
 abbrev pub KnowsRows : List Row → View → Type 0
-KnowsRows rows v = AreFacts rows v.holds v.knows
+KnowsRows rows v = AreFacts rows v.holds v.words.knows

@@ -18,4 +18,5 @@ lowers n (Turned row) = one_if n row
 
 -- a row that no pass is lowering has no shrinking mark
 abbrev pub AreMarked : List Row → List View → Type 0
-AreMarked rows views = (n : ℕ) → total (λ v. lowers n v.doing) views ≡ 0 → ¬ IsShrinking (row rows n).stamp
+AreMarked rows views =
+    (n : ℕ) → total (λ v. lowers n v.doing) views ≡ 0 → ¬ IsShrinking (row rows n).stamp

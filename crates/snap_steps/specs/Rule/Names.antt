@@ -1,4 +1,5 @@
--- The part of the rule on numbers: passes, receipts and admitted numbers are different, and below the number of passes.
+-- The part of the rule on numbers: passes, receipts and admitted numbers are different, and below
+-- the number of passes.
 use Rattle.std.specs.Prelude.{ℕ, ◌≡◌, ◌≤◌, List, []}
 use Rattle.snap_steps.specs.Counting.{times, total}
 use Rattle.snap_steps.specs.Numbers.{numbers}
@@ -17,7 +18,8 @@ pub record AreNamed (passes : ℕ) (views : List View) : Type 0 where
   pub below : (i : ℕ) → passes ≤ i → total (names i) views ≡ 0
   -- whoever hands out passes has not handed out the number that it names, nor a greater one
   pub one_opener : total (λ v. is_opening v.role) views ≤ 1
-  pub unissued : Each (λ v. v.role ≡ Opening → (i : ℕ) → v.who ≤ i → total (names i) views ≡ 0) views
+  pub unissued : Each
+      (λ v. v.role ≡ Opening → (i : ℕ) → v.who ≤ i → total (names i) views ≡ 0) views
 
 -- who is no pass is idle, has cut nothing and drawn nothing
 abbrev pub ActsAsPass : View → Type 0

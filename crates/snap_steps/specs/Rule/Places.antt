@@ -32,4 +32,4 @@ PlaceKnown s (On k t) = PlaceAt s k t
 
 -- the place that the pass last went on from
 abbrev pub KnowsPlace : Table → View → Type 0
-KnowsPlace s v = PlaceKnown s v.place
+KnowsPlace s v = PlaceKnown s v.way.place

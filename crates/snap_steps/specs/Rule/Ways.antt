@@ -12,4 +12,4 @@ AllLinked linked (r ∷ rs) = Among r linked × AllLinked linked rs
 
 -- the way that the pass is on
 abbrev pub IsOnWay : Table → View → Type 0
-IsOnWay s v = ReadingOk s v.seen v.reads
+IsOnWay s v = ReadingOk s v.seen v.way.reads

@@ -12,4 +12,4 @@ pub record IsWorn (s : Table) : Type 0 where
   pub last : last_count ≤ count_of (s.stamp row)
 
 abbrev pub KnowsWorn : Table → View → Type 0
-KnowsWorn s v = v.worn ≡ true → IsWorn s
+KnowsWorn s v = v.noted.worn ≡ true → IsWorn s

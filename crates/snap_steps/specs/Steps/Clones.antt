@@ -20,7 +20,9 @@ use Rattle.snap_steps.specs.declared.view.WordNote.TheVariants.{Done}
 
 -- the seat of the clone that a pass has cut, or that another seat reads
 abbrev pub seat_of : View → View
-seat_of v = silent v.rows v.passes v.base.history v.handed v.epochs v.worn v.base v.outworn
+seat_of v =
+    silent v.rows v.passes v.base.history v.noted.handed v.noted.epochs v.noted.worn v.base
+    v.outworn
 
 -- what is true of the seat of a clone between two calls, whose root is this row
 pub record IsSeatOfClone (me : Sat) (top : ℕ) : Type 0 where
@@ -33,13 +35,18 @@ pub record IsSeatOfClone (me : Sat) (top : ℕ) : Type 0 where
 abbrev pub root_loaded : Step (Unit {0}) → Sat → ℕ → Sat → Type 0
 root_loaded st m r n = Has m n m.0 × (r ≡ root (image_of m.0)) × (r ≤ m.0.rows)
 
--- how many writes were counted, of which a note is left: those of the history of the clone that was cut, which goes on from what the pass has seen
+-- how many writes were counted, of which a note is left: those of the history of the clone that was
+-- cut, which goes on from what the pass has seen
 abbrev pub writes_counted : Step (Unit {0}) → Sat → ℕ → Sat → Type 0
-writes_counted st m r n = (st.word ≡ done_at) × Has m n (noted m.0 (Done r)) × (r ≡ length m.0.base.history) × Begins m.0.seen m.0.base.history
+writes_counted st m r n = (st.word ≡ done_at)
+    × Has m n (noted m.0 (Done r))
+    × (r ≡ length m.0.base.history)
+    × Begins m.0.seen m.0.base.history
 
 -- a word of a row of the clone
 abbrev pub copied : Step (Unit {0}) → Sat → ℕ → Sat → Type 0
-copied st m r n = (row : ℕ) (field : Field) → st.word ≡ word_at row field → Has m n m.0 × TellsWord m.0.rows (image_of m.0) row field r
+copied st m r n = (row : ℕ) (field : Field) → st.word ≡ word_at row field
+    → Has m n m.0 × TellsWord m.0.rows (image_of m.0) row field r
 
 -- the rows with a stamp at its greatest count that a seat has found, once it has loaded this one
 abbrev pub found_out : (row stamp : ℕ) → List ℕ → List ℕ
@@ -47,11 +54,15 @@ found_out row stamp rows = cond (is_last Stamp stamp) (row ∷ rows) rows
 
 -- a stamp, which is noted with its row where it is at its greatest count
 abbrev pub stamp_noted : View → (row stamp : ℕ) → View
-stamp_noted v row r = record v { worn = v.worn || is_last Stamp r; outworn = found_out row r v.outworn }
+stamp_noted v row r = record v {
+  noted = record v.noted { worn = v.noted.worn || is_last Stamp r };
+  outworn = found_out row r v.outworn;
+}
 
 -- the stamp of the row that is the cause of the clone's balance is at its greatest count
 abbrev pub TellsCause : Balance → (row stamp : ℕ) → Type 0
 TellsCause balance row stamp = balance ≡ StampOut row → last_count ≤ count_of stamp
 
 abbrev pub stamp_loaded : Step (Unit {0}) → Sat → ℕ → Sat → Type 0
-stamp_loaded st m r n = (row : ℕ) → st.word ≡ word_at row Stamp → Has m n (stamp_noted m.0 row r) × TellsCause m.0.base.balance row r
+stamp_loaded st m r n = (row : ℕ) → st.word ≡ word_at row Stamp
+    → Has m n (stamp_noted m.0 row r) × TellsCause m.0.base.balance row r

@@ -20,9 +20,10 @@ abbrev pub key_at : ℕ → ℕ → Option ℕ
 key_at zero key = None
 key_at (suc n) key = Some key
 
--- the pass has loaded a word that shows why rows may be left unsettled: every row was handed out, or a stamp is at its greatest count
+-- the pass has loaded a word that shows why rows may be left unsettled: every row was handed out,
+-- or a stamp is at its greatest count
 abbrev pub KnowsReason : View → Type 0
-KnowsReason v = (v.rows ≤ v.handed) ⊎ (v.worn ≡ true)
+KnowsReason v = (v.rows ≤ v.noted.handed) ⊎ (v.noted.worn ≡ true)
 
 -- nothing is owed, or there is such a reason
 abbrev pub OwesNothing : View → Type 0

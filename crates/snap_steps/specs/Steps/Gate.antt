@@ -20,17 +20,39 @@ use Rattle.snap_rule.specs.Tree.{Tree}
 
 -- a write begins without a debt, and without a place: its own search has to find one
 abbrev pub entered : View → View
-entered v = record v { stage = Writing false false; uses = v.uses + 1; reads = Resting; place = Resting; copies = []; debt = no_debt }
+entered v = record v {
+  stage = Writing false false;
+  uses = v.uses
+      + 1;
+  way = record v.way { reads = Resting; place = Resting };
+  fresh = record v.fresh { copies = [] };
+  debt = no_debt;
+}
 
 abbrev pub closed : View → ℕ → View
 closed v gate = record v { stage = Closing gate false false; uses = v.uses + 1 }
 
 abbrev pub idled : View → View
-idled v = record v { stage = Idle; present = []; debt = no_debt }
+idled v = record v { stage = Idle; words = record v.words { present = [] }; debt = no_debt }
 
--- the closing pass has cut a clone with this history and tree, where so many rows were handed out, and has seen all
+-- the closing pass has cut a clone with this history and tree, where so many rows were handed out,
+-- and has seen all
 abbrev pub cut_with : View → List Entry → List Part → (drawn : ℕ) → Balance → View
-cut_with v seen parts drawn balance = record v { seen = seen; reads = Resting; stage = after_cut v.stage; cuts = v.cuts ++ length seen ∷ []; base = record { history = seen; parts = parts; noted = length v.notes; drawn = drawn; balance = balance } }
+cut_with v seen parts drawn balance =
+    record v {
+      seen = seen;
+      way = record v.way { reads = Resting };
+      stage = after_cut v.stage;
+      cuts = v.cuts ++ length seen ∷ [];
+      base =
+          record {
+            history = seen;
+            parts = parts;
+            noted = length v.noted.notes;
+            drawn = drawn;
+            balance = balance;
+          };
+    }
 
 abbrev pub cut_made : View → List Entry → Tree → (drawn : ℕ) → Balance → View
 cut_made v seen image drawn balance = cut_with v seen (parts_of image) drawn balance
@@ -39,10 +61,18 @@ abbrev pub entering_tried : Step (Unit {0}) → Sat → ℕ → Sat → Type 0
 entering_tried st m r n = (st.word ≡ gate_at) × Tried st m r n (entered m.0) (noted m.0 (Gate r))
 
 abbrev pub closing_tried : Step (Unit {0}) → Sat → ℕ → Sat → Type 0
-closing_tried st m r n = (st.word ≡ gate_at) × Tried st m r n (closed m.0 st.second) (noted m.0 (Gate r))
+closing_tried st m r n =
+    (st.word ≡ gate_at) × Tried st m r n (closed m.0 st.second) (noted m.0 (Gate r))
 
 abbrev pub ended : Step (Unit {0}) → Sat → ℕ → Sat → Type 0
 ended st m r n = Has m n (idled m.0)
 
 abbrev pub cut_told : Step (Unit {0}) → Sat → ℕ → Sat → Type 0
-cut_told st m r n = (seen : List Entry) × (image : Tree) × (drawn : ℕ) × (balance : Balance) × Extends m.0 seen × IsCloneOf seen image × ArePlaced m.0.rows image × IsWeighed m.0.rows drawn image balance × Has m n (cut_made m.0 seen image drawn balance) × KnowsCuts m.0
+cut_told st m r n = (seen : List Entry)
+    × (image : Tree) × (drawn : ℕ)
+    × (balance : Balance) × Extends m.0 seen
+    × IsCloneOf seen image
+    × ArePlaced m.0.rows image
+    × IsWeighed m.0.rows drawn image balance
+    × Has m n (cut_made m.0 seen image drawn balance)
+    × KnowsCuts m.0

@@ -1,4 +1,5 @@
--- Loads of the header. Each tells which word it loaded, so that a note is of that word and of no other.
+-- Loads of the header. Each tells which word it loaded, so that a note is of that word and of no
+-- other.
 use Rattle.std.specs.Prelude.{[], ◌∷◌, ◌++◌, List, ℕ, ◌≡◌, ◌≤◌, length, max}
 use Rattle.atomic_table.specs.Table.{Step}
 use Rattle.snap_model.specs.declared.call.Entry.{Entry}
@@ -33,7 +34,13 @@ epochs_after h (notes.Birth k b) = h
 epochs_after h notes.Trouble = h
 
 abbrev pub noted : View → WordNote → View
-noted v n = record v { notes = v.notes ++ n ∷ []; handed = handed_after v.handed n; epochs = epochs_after v.epochs n }
+noted v n = record v {
+  noted = record v.noted {
+    notes = v.noted.notes ++ n ∷ [];
+    handed = handed_after v.noted.handed n;
+    epochs = epochs_after v.noted.epochs n;
+  };
+}
 
 -- several notes more, in their order
 abbrev pub all_handed : ℕ → List WordNote → ℕ
@@ -45,20 +52,30 @@ all_epochs h [] = h
 all_epochs h (n ∷ ns) = all_epochs (epochs_after h n) ns
 
 abbrev pub all_noted : View → List WordNote → View
-all_noted v l = record v { notes = v.notes ++ l; handed = all_handed v.handed l; epochs = all_epochs v.epochs l }
+all_noted v l = record v {
+  noted = record v.noted {
+    notes = v.noted.notes
+        ++ l;
+    handed = all_handed v.noted.handed l;
+    epochs = all_epochs v.noted.epochs l;
+  };
+}
 
 abbrev pub saw : View → List Entry → View
-saw v seen = record v { seen = seen; reads = Resting }
+saw v seen = record v { seen = seen; way = record v.way { reads = Resting } }
 
 -- the epoch was loaded
 abbrev pub epoch_noted : View → ℕ → View
-epoch_noted v n = record (noted v (notes.Epoch n)) { present = with_epoch v.stage n v.present }
+epoch_noted v n =
+    let u : View = noted v (notes.Epoch n) in
+    record u { words = record u.words { present = with_epoch v.stage n v.words.present } }
 
 abbrev pub left_seen : View → ℕ → View
 left_seen v r = record (noted v (notes.Left r)) { stage = after_left v.stage r }
 
 abbrev pub next_loaded : Step (Unit {0}) → Sat → ℕ → Sat → Type 0
-next_loaded st m r n = (st.word ≡ next_at) × Has m n (noted m.0 (Next r)) × (r ≤ m.0.rows) × (m.0.base.drawn ≤ r)
+next_loaded st m r n =
+    (st.word ≡ next_at) × Has m n (noted m.0 (Next r)) × (r ≤ m.0.rows) × (m.0.base.drawn ≤ r)
 
 abbrev pub gate_loaded : Step (Unit {0}) → Sat → ℕ → Sat → Type 0
 gate_loaded st m r n = (st.word ≡ gate_at) × Has m n (noted m.0 (Gate r))
@@ -67,7 +84,12 @@ abbrev pub left_loaded : Step (Unit {0}) → Sat → ℕ → Sat → Type 0
 left_loaded st m r n = (st.word ≡ left_at) × Has m n (left_seen m.0 r)
 
 abbrev pub done_loaded : Step (Unit {0}) → Sat → ℕ → Sat → Type 0
-done_loaded st m r n = (st.word ≡ done_at) × (seen : List Entry) × Extends m.0 seen × (r ≤ length seen) × Has m n (noted (saw m.0 seen) (Done r))
+done_loaded st m r n = (st.word ≡ done_at)
+    × (seen : List Entry) × Extends m.0 seen
+    × (r ≤ length seen)
+    × Has m n (noted (saw m.0 seen) (Done r))
 
 abbrev pub epoch_loaded : Step (Unit {0}) → Sat → ℕ → Sat → Type 0
-epoch_loaded st m r n = (st.word ≡ epoch_at) × Has m n (epoch_noted m.0 r) × ((e : ℕ) → Among e m.0.present → r ≡ e)
+epoch_loaded st m r n = (st.word ≡ epoch_at)
+    × Has m n (epoch_noted m.0 r)
+    × ((e : ℕ) → Among e m.0.words.present → r ≡ e)

@@ -20,11 +20,23 @@ next_pass v = newcomer v.rows v.passes v.who
 
 -- what a note keeps of a pass
 abbrev pub note_of : View → View
-note_of v = record (blank v.rows v.passes Noting 0) { seen = v.seen; handed = v.handed; epochs = v.epochs; worn = v.worn }
+note_of v =
+    record (blank v.rows v.passes Noting 0) { seen = v.seen; noted = record v.noted { notes = [] } }
 
--- a view that has come to know what another had seen and noted, where this is what the two have seen together
+-- a view that has come to know what another had seen and noted, where this is what the two have
+-- seen together
 abbrev pub heard : View → View → List Entry → View
-heard v w seen = record v { seen = seen; reads = Resting; handed = max v.handed w.handed; epochs = max v.epochs w.epochs; worn = v.worn || w.worn }
+heard v w seen =
+    record v {
+      seen = seen;
+      way = record v.way { reads = Resting };
+      noted =
+          record v.noted {
+            handed = max v.noted.handed w.noted.handed;
+            epochs = max v.noted.epochs w.noted.epochs;
+            worn = v.noted.worn || w.noted.worn;
+          };
+    }
 
 -- after a join: the longer history, and both are kept
 abbrev pub learned : View → View → View
@@ -42,4 +54,7 @@ abbrev pub sure : View → View
 sure v = record v { joined = [] }
 
 abbrev pub made_sure : Step (Unit {0}) → Sat → ℕ → Sat → Type 0
-made_sure st m r n = Has m n (sure m.0) × AllBegin m.0.joined m.0.seen × IsLegal m.0.seen × (calls_of m.0.seen m.0.who ≡ m.0.mine)
+made_sure st m r n = Has m n (sure m.0)
+    × AllBegin m.0.joined m.0.seen
+    × IsLegal m.0.seen
+    × (calls_of m.0.seen m.0.who ≡ m.0.mine)

@@ -20,33 +20,38 @@ pub record Leans (v : View) (upper : ℕ) (d : Side) : Type 0 where
   pub is_low : HasHeight v upper (other d) low
   pub tilts : low + 2 ≤ high
 
--- the parent is such a row and the side the higher one, or it is the child there and the side the other one. There is a child
+-- the parent is such a row and the side the higher one, or it is the child there and the side the
+-- other one. There is a child
 pub record IsTilt (v : View) (upper parent : ℕ) (side : Side) : Type 0 where
   pub higher : Side
   pub leans : Leans v upper higher
-  pub at : ((parent ≡ upper) × (side ≡ higher)) ⊎ (IsKnown v.knows upper (link_field higher) parent × (side ≡ other higher))
+  pub at : ((parent ≡ upper) × (side ≡ higher))
+      ⊎ (IsKnown v.words.knows upper (link_field higher) parent × (side ≡ other higher))
   pub child : ℕ
   pub some_child : child ≢ 0
-  pub leads : IsKnown v.knows parent (link_field side) child
+  pub leads : IsKnown v.words.knows parent (link_field side) child
 
 -- the place that a rotation wants, at a held live row
 pub record IsBelowTilt (v : View) (parent : ℕ) (side : Side) (child : ℕ) : Type 0 where
   pub held : Among parent v.holds
-  pub live : (Among parent v.reached) × IsBorn v parent
-  pub child_is : IsKnown v.knows parent (link_field side) child
+  pub live : (Among parent v.trail.reached) × IsBorn v parent
+  pub child_is : IsKnown v.words.knows parent (link_field side) child
   pub upper : ℕ
   pub tilt : IsTilt v upper parent side
 
--- where a copy may be linked: without an entry at the place of a key, or at one that a rotation wants, which sets no key
+-- where a copy may be linked: without an entry at the place of a key, or at one that a rotation
+-- wants, which sets no key
 abbrev pub IsCopyPlace : View → Option ℕ → ℕ → Side → ℕ → Type 0
-IsCopyPlace v (Some key) parent side child = (v.stage ≡ Writing false false) × IsAbove v key parent side child
+IsCopyPlace v (Some key) parent side child =
+    (v.stage ≡ Writing false false) × IsAbove v key parent side child
 IsCopyPlace v None parent side child = IsBelowTilt v parent side child
 
 -- what both places have
 pub record IsHeldLink (v : View) (parent : ℕ) (side : Side) (child : ℕ) : Type 0 where
   pub held : Among parent v.holds
-  pub child_is : IsKnown v.knows parent (link_field side) child
-  pub live : ((parent ≡ 0) × (side ≡ sides.Right)) ⊎ ((Among parent v.reached) × IsBorn v parent)
+  pub child_is : IsKnown v.words.knows parent (link_field side) child
+  pub live : ((parent ≡ 0) × (side ≡ sides.Right))
+      ⊎ ((Among parent v.trail.reached) × IsBorn v parent)
 
 -- in a write, with or without its entry
 abbrev pub IsWriting : View → Type 0

@@ -10,6 +10,7 @@ Sat = Me (Unit {0}) View
 abbrev pub Has : Sat → Sat → View → Type 0
 Has m n view = n ≡ (view, m.1)
 
--- a compare-exchange that changes the view so where it found what it expected, and else leaves a note
+-- a compare-exchange that changes the view so where it found what it expected, and else leaves a
+-- note
 abbrev pub Tried : Step (Unit {0}) → Sat → ℕ → Sat → View → View → Type 0
 Tried st m r n won lost = (r ≡ st.first → Has m n won) × (r ≢ st.first → Has m n lost)

@@ -1,4 +1,5 @@
--- A reader on its way to a key: the point that it has come to decides the next word, and the word the next point.
+-- A reader on its way to a key: the point that it has come to decides the next word, and the word
+-- the next point.
 use Rattle.std.specs.Prelude.{ℕ, List, [], ◌∷◌, ◌++◌, zero, suc, ◌==◌, ◌%◌, nat_lt, cond, ◌≤◌, ◌+◌, ◌≡◌, None, length}
 use Rattle.atomic_table.specs.Table.{Step}
 use Rattle.snap_model.specs.History.{told}
@@ -21,21 +22,33 @@ use Rattle.snap_stamp.specs.declared.side.Side.TheVariants as sides
 
 -- a reader sets out for a key from row 0
 abbrev pub set_out_for : View → List Entry → ℕ → View
-set_out_for v seen key = record v { seen = seen; reads = On key (Standing 0 0 sides.Right); confirmed = []; place = Resting }
+set_out_for v seen key = record v {
+  seen = seen;
+  way = record
+      { reads = On key (Standing 0 0 sides.Right); confirmed = []; place = Resting };
+}
 
 -- a reader sets out for a key again, and has seen no more
 abbrev pub begun_again : View → ℕ → View
-begun_again v key = record v { steps = v.steps + 1; reads = On key (Standing 0 0 sides.Right); confirmed = []; place = Resting }
+begun_again v key = record v {
+  trail = record v.trail { steps = v.trail.steps + 1 };
+  way = record { reads = On key (Standing 0 0 sides.Right); confirmed = []; place = Resting };
+}
 
--- where the reader is once it has loaded its next word: at row 0 again where a word is another than it must be
+-- where the reader is once it has loaded its next word: at row 0 again where a word is another than
+-- it must be
 abbrev pub next_point : ℕ → Point → ℕ → Reading
 next_point k (Standing n v d) zero = On k (NoLink n v d)
 next_point k (Standing n v d) (suc c) = On k (Linked n v d (suc c))
 next_point k (NoLink n v d) x = Resting
-next_point k (Linked n v d c) x = cond (x % 4 == 0) (On k (Stamped n v d c x)) (On k (Standing 0 0 sides.Right))
-next_point k (Stamped n v d c w) x = cond (x == c) (On k (Relinked n v c w)) (On k (Standing 0 0 sides.Right))
-next_point k (Relinked n v c w) x = cond (x == v) (On k (Confirmed c w)) (On k (Standing 0 0 sides.Right))
-next_point k (Confirmed c w) x = cond (x == k) (On k (Matched c)) (On k (Standing c w (cond (nat_lt k x) sides.Left sides.Right)))
+next_point k (Linked n v d c) x =
+    cond (x % 4 == 0) (On k (Stamped n v d c x)) (On k (Standing 0 0 sides.Right))
+next_point k (Stamped n v d c w) x =
+    cond (x == c) (On k (Relinked n v c w)) (On k (Standing 0 0 sides.Right))
+next_point k (Relinked n v c w) x =
+    cond (x == v) (On k (Confirmed c w)) (On k (Standing 0 0 sides.Right))
+next_point k (Confirmed c w) x = cond (x == k) (On k (Matched c))
+    (On k (Standing c w (cond (nat_lt k x) sides.Left sides.Right)))
 next_point k ConfirmedNone x = Resting
 next_point k (Matched c) x = Resting
 
@@ -56,7 +69,7 @@ BoundAt rows (On k (Matched c)) x = Unit {0}
 
 -- a link leads to a row of the table
 abbrev pub HasBound : View → ℕ → Type 0
-HasBound v x = BoundAt v.rows v.reads x
+HasBound v x = BoundAt v.rows v.way.reads x
 
 -- the row to which a link leads
 abbrev pub led_by : Point → ℕ → List ℕ
@@ -104,9 +117,23 @@ abbrev pub goes_from : Reading → Reading → Reading
 goes_from Resting p = p
 goes_from (On k t) p = place_by k t p
 
--- the reader loaded its next word: where that is a link, the pass has reached the row to which it leads
+-- the reader loaded its next word: where that is a link, the pass has reached the row to which it
+-- leads
 abbrev pub read_on : View → ℕ → View
-read_on v x = record v { steps = v.steps + 1; reads = goes_on v.reads x; confirmed = now_confirmed v.reads x v.confirmed; place = goes_from v.reads v.place; reached = v.reached ++ comes_to v.reads x }
+read_on v x =
+    record v {
+      trail =
+          record {
+            steps = v.trail.steps + 1;
+            reached = v.trail.reached ++ comes_to v.way.reads x;
+          };
+      way =
+          record {
+            reads = goes_on v.way.reads x;
+            confirmed = now_confirmed v.way.reads x v.way.confirmed;
+            place = goes_from v.way.reads v.way.place;
+          };
+    }
 
 -- the word that the reader loads next, where its answer comes later
 abbrev pub IsNext : Point → ℕ → Field → Type 0
@@ -147,7 +174,11 @@ ends_at (On k t) x = last_point k t x
 
 -- the reader loaded its last word, and what it tells stands at this history
 abbrev pub settled_at : View → List Entry → ℕ → View
-settled_at v seen x = record v { steps = v.steps + 1; seen = seen; reads = ends_at v.reads x }
+settled_at v seen x = record v {
+  trail = record v.trail { steps = v.trail.steps + 1 };
+  seen = seen;
+  way = record v.way { reads = ends_at v.way.reads x };
+}
 
 -- what that word tells of the map after this history
 abbrev pub Answers : ℕ → Point → ℕ → List Entry → Type 0
@@ -165,7 +196,10 @@ HasAnswer Resting x h = Unit {0}
 HasAnswer (On k t) x h = Answers k t x h
 
 abbrev pub way_begun : ℕ → Step (Unit {0}) → Sat → ℕ → Sat → Type 0
-way_begun key st m r n = (st.word ≡ done_at) × (seen : List Entry) × Extends m.0 seen × (r ≤ length seen) × Has m n (set_out_for (noted m.0 (Done r)) seen key)
+way_begun key st m r n = (st.word ≡ done_at)
+    × (seen : List Entry) × Extends m.0 seen
+    × (r ≤ length seen)
+    × Has m n (set_out_for (noted m.0 (Done r)) seen key)
 
 abbrev pub way_begun_again : ℕ → Step (Unit {0}) → Sat → ℕ → Sat → Type 0
 way_begun_again key st m r n = Has m n (begun_again m.0 key)
@@ -175,4 +209,7 @@ next_read st m r n = Has m n (read_on m.0 r) × HasBound m.0 r
 
 -- the word answers the search at what the pass has now seen
 abbrev pub answer_read : Step (Unit {0}) → Sat → ℕ → Sat → Type 0
-answer_read st m r n = (seen : List Entry) × Extends m.0 seen × Has m n (settled_at m.0 seen r) × HasAnswer m.0.reads r seen
+answer_read st m r n = (seen : List Entry)
+    × Extends m.0 seen
+    × Has m n (settled_at m.0 seen r)
+    × HasAnswer m.0.way.reads r seen

@@ -25,5 +25,5 @@ load-requires g c =
 pub invariant_of-pass : goal.invariant_of-pass
 invariant_of-pass g c =
     let t = c.load.ensures.2 in let m = c.pass.inside.seat.me in let e : Entry = entry m.0.who (Remove g.J.Saying.key) None in let v : View = made_entry m.0 t.0 e in
-    stays_pass m c.load.new.seat.me v c.pass.inside.who c.pass.inside.uses c.pass.inside.added c.pass.inside.taken c.pass.inside.added c.pass.inside.taken c.pass.inside.to_do c.pass.inside.to_do (c.pass.invariant.to_do_is, c.pass.invariant.keyless) c.pass.invariant t.2 refl refl refl refl
+    stays_pass m c.load.new.seat.me v c.pass.inside.who c.pass.inside.uses c.pass.inside.added c.pass.inside.taken c.pass.inside.added c.pass.inside.taken c.pass.inside.owed c.pass.inside.owed c.pass.invariant.owed_is c.pass.invariant t.2 refl refl refl refl
     (no_pair m.0 v e c.pass.inside.added c.pass.inside.taken refl refl refl refl c.pass.invariant.pairs)

@@ -8,7 +8,8 @@ use Rattle.snap_steps.specs.declared.view.View.{View}
 use Rattle.snap_steps.proofs.Cells.{word_within}
 use Rattle.snap_steps.proofs.Classes.Turning.{Rule}
 use Rattle.snap_steps.proofs.Keeps.Aiming.{aims}
-use Rattle.snap_steps.proofs.Passing.{aimed_to_do, stays_pass, same_pairs}
+use Rattle.snap_steps.proofs.Passing.{stays_pass, same_pairs}
+use Rattle.snap_steps.proofs.Tallies.{tells_aimed}
 use Rattle.snap_steps.proofs.aiming.aim_told.Goals as goal
 
 pub load-requires : goal.load-requires
@@ -27,6 +28,6 @@ pub invariant_of-pass : goal.invariant_of-pass
 invariant_of-pass g c =
     let m = c.pass.inside.seat.me in
     let v : View = aimed_view m.0 g.J.Aiming.at g.J.Aiming.key c.load.result in
-    stays_pass m c.load.new.seat.me v c.pass.inside.who c.pass.inside.uses c.pass.inside.added c.pass.inside.taken c.pass.inside.added c.pass.inside.taken c.pass.inside.to_do c.to_do_at-to_do.result
-    (aimed_to_do c.args.row g.J.Aiming.at c.args.key g.J.Aiming.key m.0.debt.list c.to_do_at-to_do.result c.requires.told.0 c.requires.told.1 c.to_do_at-to_do.ensures)
+    stays_pass m c.load.new.seat.me v c.pass.inside.who c.pass.inside.uses c.pass.inside.added c.pass.inside.taken c.pass.inside.added c.pass.inside.taken c.pass.inside.owed c.at-owed.result
+    (tells_aimed c.at-owed.result c.args.row g.J.Aiming.at c.args.key g.J.Aiming.key c.pass.inside.owed.listed m.0.debt.list c.requires.told.0 c.requires.told.1 c.at-owed.ensures c.pass.invariant.owed_is.rows)
     c.pass.invariant c.load.ensures.2 refl refl refl refl (same_pairs m.0 v c.pass.inside.added c.pass.inside.taken refl refl c.pass.invariant.pairs)

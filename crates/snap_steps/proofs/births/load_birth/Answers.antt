@@ -19,7 +19,7 @@ load-requires c =
 
 pub invariant_of-pass : goal.invariant_of-pass
 invariant_of-pass c = let t = c.load.ensures.2 c.args.row c.index_of-word.ensures in let m = c.pass.inside.seat.me in let w = born m.0 c.args.row c.load.result in
-    stays_pass m c.load.new.seat.me w c.pass.inside.who c.pass.inside.uses c.pass.inside.added c.pass.inside.taken c.pass.inside.added c.pass.inside.taken c.pass.inside.to_do c.pass.inside.to_do (c.pass.invariant.to_do_is, c.pass.invariant.keyless) c.pass.invariant t.0 refl refl refl refl (same_pairs m.0 w c.pass.inside.added c.pass.inside.taken refl refl c.pass.invariant.pairs)
+    stays_pass m c.load.new.seat.me w c.pass.inside.who c.pass.inside.uses c.pass.inside.added c.pass.inside.taken c.pass.inside.added c.pass.inside.taken c.pass.inside.owed c.pass.inside.owed c.pass.invariant.owed_is c.pass.invariant t.0 refl refl refl refl (same_pairs m.0 w c.pass.inside.added c.pass.inside.taken refl refl c.pass.invariant.pairs)
 
 pub returns-clause-past : goal.returns-clause-past
-returns-clause-past c = let t = c.load.ensures.2 c.args.row c.index_of-word.ensures in λ e some. t.1 e (subst (λ (k : Known). Among e k.view.present) (sym c.pass.view_is) some)
+returns-clause-past c = let t = c.load.ensures.2 c.args.row c.index_of-word.ensures in λ e some. t.1 e (subst (λ (k : Known). Among e k.view.words.present) (sym c.pass.view_is) some)

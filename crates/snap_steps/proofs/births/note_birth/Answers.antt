@@ -21,11 +21,11 @@ load-requires c =
 
 pub invariant_of-pass : goal.invariant_of-pass
 invariant_of-pass c =
-    let way : c.pass.inside.seat.me.0.reads ≡ On c.args.key c.requires.way.0 = search rules in
+    let way : c.pass.inside.seat.me.0.way.reads ≡ On c.args.key c.requires.way.0 = search rules in
     let t = c.load.ensures.2 c.args.row c.args.key c.requires.way.0 c.index_of-word.ensures way in let m = c.pass.inside.seat.me in let w = birth_noted m.0 c.args.key c.args.row c.load.result in
-    stays_pass m c.load.new.seat.me w c.pass.inside.who c.pass.inside.uses c.pass.inside.added c.pass.inside.taken c.pass.inside.added c.pass.inside.taken c.pass.inside.to_do c.pass.inside.to_do (c.pass.invariant.to_do_is, c.pass.invariant.keyless) c.pass.invariant t.0 refl refl refl refl (same_pairs m.0 w c.pass.inside.added c.pass.inside.taken refl refl c.pass.invariant.pairs)
+    stays_pass m c.load.new.seat.me w c.pass.inside.who c.pass.inside.uses c.pass.inside.added c.pass.inside.taken c.pass.inside.added c.pass.inside.taken c.pass.inside.owed c.pass.inside.owed c.pass.invariant.owed_is c.pass.invariant t.0 refl refl refl refl (same_pairs m.0 w c.pass.inside.added c.pass.inside.taken refl refl c.pass.invariant.pairs)
 
 pub returns-clause-past : goal.returns-clause-past
 returns-clause-past c =
-    let way : c.pass.inside.seat.me.0.reads ≡ On c.args.key c.requires.way.0 = search rules in
-    let t = c.load.ensures.2 c.args.row c.args.key c.requires.way.0 c.index_of-word.ensures way in λ e some. t.1 e (subst (λ (k : Known). Among e k.view.present) (sym c.pass.view_is) some)
+    let way : c.pass.inside.seat.me.0.way.reads ≡ On c.args.key c.requires.way.0 = search rules in
+    let t = c.load.ensures.2 c.args.row c.args.key c.requires.way.0 c.index_of-word.ensures way in λ e some. t.1 e (subst (λ (k : Known). Among e k.view.words.present) (sym c.pass.view_is) some)

@@ -13,7 +13,7 @@ use Rattle.snap_steps.proofs.copies.copy_placed.Goals as goal
 pub store-requires : goal.store-requires
 store-requires g c =
     let low : c.args.parent ≤ c.rows.inside.table.shared.key.rows = search rules in
-    let at : c.index_of-word.result ≡ word_at c.args.parent (link_field c.args.side) = c.index_of-word.ensures ∙ ap (word_at c.args.parent) c.link_of.ensures in
+    let at : c.index_of-word.result ≡ word_at c.args.parent (link_field c.args.side) = c.index_of-word.ensures ∙ ap (word_at c.args.parent) c.link.ensures in
     let near : c.index_of-word.result < c.rows.inside.table.shared.table_id.words = word_within _ _ c.args.parent c.rows.inside.rows (link_field c.args.side) at (search rules) c.rows.invariant.words_are in (
       search rules,
       near,
@@ -26,6 +26,6 @@ store-requires g c =
 
 pub invariant_of-pass : goal.invariant_of-pass
 invariant_of-pass g c =
-    let at : c.index_of-word.result ≡ word_at c.args.parent (link_field c.args.side) = c.index_of-word.ensures ∙ ap (word_at c.args.parent) c.link_of.ensures in
+    let at : c.index_of-word.result ≡ word_at c.args.parent (link_field c.args.side) = c.index_of-word.ensures ∙ ap (word_at c.args.parent) c.link.ensures in
     let t = c.store.ensures.2 c.args.parent c.args.side at in let m = c.pass.inside.seat.me in let w = copied m.0 g.J.Copying.key c.args.parent (link_field c.args.side) c.number.result in
-    stays_pass m c.store.new.seat.me w c.pass.inside.who c.pass.inside.uses c.pass.inside.added c.pass.inside.taken c.pass.inside.added c.pass.inside.taken c.pass.inside.to_do c.pass.inside.to_do (c.pass.invariant.to_do_is, c.pass.invariant.keyless) c.pass.invariant t refl refl refl refl (same_pairs m.0 w c.pass.inside.added c.pass.inside.taken refl refl c.pass.invariant.pairs)
+    stays_pass m c.store.new.seat.me w c.pass.inside.who c.pass.inside.uses c.pass.inside.added c.pass.inside.taken c.pass.inside.added c.pass.inside.taken c.pass.inside.owed c.pass.inside.owed c.pass.invariant.owed_is c.pass.invariant t refl refl refl refl (same_pairs m.0 w c.pass.inside.added c.pass.inside.taken refl refl c.pass.invariant.pairs)

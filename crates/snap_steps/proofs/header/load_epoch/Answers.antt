@@ -8,4 +8,4 @@ pub load-requires : goal.load-requires
 load-requires c = (search rules, search rules, loads_epoch c.rows.inside.table.shared.key _ c.pass.inside.seat.id c.pass.inside.seat.me)
 
 pub returns-clause-same : goal.returns-clause-same
-returns-clause-same c = λ e some. c.load.ensures.2.2 e (subst (λ (k : Known). Among e k.view.present) (sym c.pass.view_is) some)
+returns-clause-same c = λ e some. c.load.ensures.2.2 e (subst (λ (k : Known). Among e k.view.words.present) (sym c.pass.view_is) some)

@@ -16,4 +16,4 @@ store-requires c =
     (search rules, near, subst (λ (i : ℕ). Allows (Rule c.rows.inside.table.shared.key) c.rows.inside.table.shared.table_id.slots c.pass.inside.seat.id c.pass.inside.seat.me i (λ _. 0) (λ _. lock_freed (step c.rows.inside.table.shared.table_id.slots i 0 0 none) c.pass.inside.seat.me 0)) (sym c.index_of-word.ensures) (frees c.rows.inside.table.shared.key c.rows.inside.table.shared.table_id.slots c.pass.inside.seat.id c.pass.inside.seat.me c.args.row low (search rules) (search rules)))
 
 pub invariant_of-pass : goal.invariant_of-pass
-invariant_of-pass c = let t = c.store.ensures.2 c.args.row c.index_of-word.ensures in stays_pass c.pass.inside.seat.me c.store.new.seat.me (unlocked c.pass.inside.seat.me.0 c.args.row) c.pass.inside.who c.pass.inside.uses c.pass.inside.added c.pass.inside.taken c.pass.inside.added c.pass.inside.taken c.pass.inside.to_do c.pass.inside.to_do (c.pass.invariant.to_do_is, c.pass.invariant.keyless) c.pass.invariant t refl refl refl refl (same_pairs c.pass.inside.seat.me.0 (unlocked c.pass.inside.seat.me.0 c.args.row) c.pass.inside.added c.pass.inside.taken refl refl c.pass.invariant.pairs)
+invariant_of-pass c = let t = c.store.ensures.2 c.args.row c.index_of-word.ensures in stays_pass c.pass.inside.seat.me c.store.new.seat.me (unlocked c.pass.inside.seat.me.0 c.args.row) c.pass.inside.who c.pass.inside.uses c.pass.inside.added c.pass.inside.taken c.pass.inside.added c.pass.inside.taken c.pass.inside.owed c.pass.inside.owed c.pass.invariant.owed_is c.pass.invariant t refl refl refl refl (same_pairs c.pass.inside.seat.me.0 (unlocked c.pass.inside.seat.me.0 c.args.row) c.pass.inside.added c.pass.inside.taken refl refl c.pass.invariant.pairs)

@@ -26,8 +26,8 @@ compare_exchange-found-requires c =
 pub invariant_of-pass : goal.invariant_of-pass
 invariant_of-pass c = let t = c.compare_exchange-found.ensures.2 c.args.row c.index_of-word.ensures in let m = c.pass.inside.seat.me in
     elim c.if-found-eq0.branch [
-      | then-found-eq0 w ↦ stays_pass m c.compare_exchange-found.new.seat.me (locked m.0 c.args.row) c.pass.inside.who c.pass.inside.uses c.pass.inside.added c.pass.inside.taken c.pass.inside.added c.pass.inside.taken c.pass.inside.to_do c.pass.inside.to_do (c.pass.invariant.to_do_is, c.pass.invariant.keyless) c.pass.invariant (t.0 w.if-found-eq0.true) refl refl refl refl (same_pairs c.pass.inside.seat.me.0 (locked m.0 c.args.row) c.pass.inside.added c.pass.inside.taken refl refl c.pass.invariant.pairs)
-      | else-found-eq0 w ↦ stays_pass m c.compare_exchange-found.new.seat.me (missed m.0 c.args.row c.compare_exchange-found.result) c.pass.inside.who c.pass.inside.uses c.pass.inside.added c.pass.inside.taken c.pass.inside.added c.pass.inside.taken c.pass.inside.to_do c.pass.inside.to_do (c.pass.invariant.to_do_is, c.pass.invariant.keyless) c.pass.invariant (t.1 w.if-found-eq0.false) refl refl refl refl (same_pairs c.pass.inside.seat.me.0 (missed m.0 c.args.row c.compare_exchange-found.result) c.pass.inside.added c.pass.inside.taken refl refl c.pass.invariant.pairs)
+      | then-found-eq0 w ↦ stays_pass m c.compare_exchange-found.new.seat.me (locked m.0 c.args.row) c.pass.inside.who c.pass.inside.uses c.pass.inside.added c.pass.inside.taken c.pass.inside.added c.pass.inside.taken c.pass.inside.owed c.pass.inside.owed c.pass.invariant.owed_is c.pass.invariant (t.0 w.if-found-eq0.true) refl refl refl refl (same_pairs c.pass.inside.seat.me.0 (locked m.0 c.args.row) c.pass.inside.added c.pass.inside.taken refl refl c.pass.invariant.pairs)
+      | else-found-eq0 w ↦ stays_pass m c.compare_exchange-found.new.seat.me (missed m.0 c.args.row c.compare_exchange-found.result) c.pass.inside.who c.pass.inside.uses c.pass.inside.added c.pass.inside.taken c.pass.inside.added c.pass.inside.taken c.pass.inside.owed c.pass.inside.owed c.pass.invariant.owed_is c.pass.invariant (t.1 w.if-found-eq0.false) refl refl refl refl (same_pairs c.pass.inside.seat.me.0 (missed m.0 c.args.row c.compare_exchange-found.result) c.pass.inside.added c.pass.inside.taken refl refl c.pass.invariant.pairs)
     ]
 
 pub returns : goal.returns

@@ -7,7 +7,8 @@ use Rattle.snap_steps.specs.declared.view.View.{View}
 use Rattle.snap_steps.proofs.Cells.{word_within}
 use Rattle.snap_steps.proofs.Classes.Turning.{Rule}
 use Rattle.snap_steps.proofs.Keeps.Rotating.{clears_mark}
-use Rattle.snap_steps.proofs.Passing.{stays_pass, same_pairs, turning_key}
+use Rattle.snap_steps.proofs.Passing.{stays_pass, same_pairs}
+use Rattle.snap_steps.proofs.Tallies.{tells_stay}
 use Rattle.snap_steps.proofs.rotating.clear_shrinking.Goals as goal
 
 pub store-requires : goal.store-requires
@@ -26,6 +27,6 @@ invariant_of-pass c =
     let m = c.pass.inside.seat.me in
     let v : View = cleared m.0 c.args.row (c.args.stamp + 2) in
     let told = c.store.ensures.2 c.args.row (search rules) in
-    stays_pass m c.store.new.seat.me v c.pass.inside.who c.pass.inside.uses c.pass.inside.added c.pass.inside.taken c.pass.inside.added c.pass.inside.taken c.pass.inside.to_do c.pass.inside.to_do
-    (c.pass.invariant.to_do_is, λ none. absurd (turning_key m.0.debt c.args.row c.pass.inside.to_do told.1 c.pass.invariant.keyless none))
+    stays_pass m c.store.new.seat.me v c.pass.inside.who c.pass.inside.uses c.pass.inside.added c.pass.inside.taken c.pass.inside.added c.pass.inside.taken c.pass.inside.owed (record { to_do = c.pass.inside.owed.to_do; listed = c.with_row-listed.result })
+    (tells_stay c.pass.inside.owed m.0.debt c.with_row-listed.result c.args.row (c.args.stamp + 2) told.1 c.with_row-listed.ensures c.pass.invariant.owed_is)
     c.pass.invariant told.0 refl refl refl refl (same_pairs m.0 v c.pass.inside.added c.pass.inside.taken refl refl c.pass.invariant.pairs)

@@ -9,7 +9,10 @@ use Rattle.snap_steps.specs.declared.view.View.{View}
 use Rattle.snap_steps.proofs.Cells.{word_within}
 use Rattle.snap_steps.proofs.Classes.Turning.{Rule}
 use Rattle.snap_steps.proofs.Keeps.Raising.{raises}
-use Rattle.snap_steps.proofs.Passing.{stays_pass, heightened_to_do, same_pairs}
+use Rattle.snap_steps.proofs.Passing.{stays_pass, same_pairs}
+use Rattle.snap_steps.proofs.Tallies.{tells_height}
+use Rattle.snap_steps.specs.Facts.{word_in}
+use Rattle.snap_stamp.specs.declared.layout.Field.TheVariants.{Stamp}
 use Rattle.snap_steps.proofs.settling.height_placed.Goals as goal
 
 pub store-requires : goal.store-requires
@@ -28,6 +31,6 @@ pub invariant_of-pass : goal.invariant_of-pass
 invariant_of-pass g c =
     let m = c.pass.inside.seat.me in
     let v : View = heightened m.0 g.J.Raising.upper g.J.Raising.lower g.J.Raising.lower_key c.args.height in
-    stays_pass m c.store.new.seat.me v c.pass.inside.who c.pass.inside.uses c.pass.inside.added c.pass.inside.taken c.pass.inside.added c.pass.inside.taken c.pass.inside.to_do c.to_do_or-to_do.result
-    (heightened_to_do m.0 g.J.Raising.upper g.J.Raising.lower c.args.key g.J.Raising.lower_key c.args.height c.pass.inside.to_do c.to_do_or-to_do.result c.requires.told.3 c.to_do_or-to_do.ensures c.pass.invariant.to_do_is)
+    stays_pass m c.store.new.seat.me v c.pass.inside.who c.pass.inside.uses c.pass.inside.added c.pass.inside.taken c.pass.inside.added c.pass.inside.taken c.pass.inside.owed (record { to_do = c.to_do_or-to_do.result; listed = c.with_row-listed.result })
+    (tells_height c.pass.inside.owed m.0.debt c.to_do_or-to_do.result c.with_row-listed.result c.args.key g.J.Raising.lower_key c.args.parent g.J.Raising.upper (word_in m.0.words.knows g.J.Raising.upper Stamp) c.requires.told.3 c.requires.told.0 c.to_do_or-to_do.ensures c.with_row-listed.ensures c.pass.invariant.owed_is)
     c.pass.invariant c.store.ensures.2 refl refl refl refl (same_pairs m.0 v c.pass.inside.added c.pass.inside.taken refl refl c.pass.invariant.pairs)

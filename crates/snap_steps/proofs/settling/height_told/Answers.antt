@@ -27,5 +27,5 @@ pub invariant_of-pass : goal.invariant_of-pass
 invariant_of-pass g c =
     let m = c.pass.inside.seat.me in
     let v : View = height_read m.0 g.J.Loading.above g.J.Loading.side g.J.Loading.child c.load.result in
-    stays_pass m c.load.new.seat.me v c.pass.inside.who c.pass.inside.uses c.pass.inside.added c.pass.inside.taken c.pass.inside.added c.pass.inside.taken c.pass.inside.to_do c.pass.inside.to_do (c.pass.invariant.to_do_is, c.pass.invariant.keyless)
+    stays_pass m c.load.new.seat.me v c.pass.inside.who c.pass.inside.uses c.pass.inside.added c.pass.inside.taken c.pass.inside.added c.pass.inside.taken c.pass.inside.owed c.pass.inside.owed c.pass.invariant.owed_is
     c.pass.invariant c.load.ensures.2 refl refl refl refl (same_pairs m.0 v c.pass.inside.added c.pass.inside.taken refl refl c.pass.invariant.pairs)

@@ -14,12 +14,12 @@ use Rattle.snap_steps.proofs.unlinking.splice.Goals as goal
 pub store-requires : goal.store-requires
 store-requires c =
     let low : c.args.parent ≤ c.rows.inside.table.shared.key.rows = search rules in
-    let near : c.index_of-word.result < c.rows.inside.table.shared.table_id.words = word_within _ _ c.args.parent c.rows.inside.rows c.link_of.result c.index_of-word.ensures (search rules) c.rows.invariant.words_are in (
+    let near : c.index_of-word.result < c.rows.inside.table.shared.table_id.words = word_within _ _ c.args.parent c.rows.inside.rows c.link.result c.index_of-word.ensures (search rules) c.rows.invariant.words_are in (
       search rules,
       near,
       subst (λ (y : ℕ). Allows (Rule c.rows.inside.table.shared.key) c.rows.inside.table.shared.table_id.slots c.pass.inside.seat.id c.pass.inside.seat.me c.index_of-word.result (λ _. y) (λ _. splice_stored (step c.rows.inside.table.shared.table_id.slots c.index_of-word.result y 0 none) c.pass.inside.seat.me 0)) (sym c.number.ensures)
           (subst (λ (i : ℕ). Allows (Rule c.rows.inside.table.shared.key) c.rows.inside.table.shared.table_id.slots c.pass.inside.seat.id c.pass.inside.seat.me i (λ _. c.args.only) (λ _. splice_stored (step c.rows.inside.table.shared.table_id.slots i c.args.only 0 none) c.pass.inside.seat.me 0))
-          (sym (c.index_of-word.ensures ∙ ap (λ (y : Field). word_at c.args.parent y) c.link_of.ensures))
+          (sym (c.index_of-word.ensures ∙ ap (λ (y : Field). word_at c.args.parent y) c.link.ensures))
           (splices c.rows.inside.table.shared.key c.rows.inside.table.shared.table_id.slots c.pass.inside.seat.id c.pass.inside.seat.me c.args.parent c.args.side c.args.row c.args.only low (search rules))),
     )
 
@@ -27,5 +27,5 @@ pub invariant_of-pass : goal.invariant_of-pass
 invariant_of-pass c =
     let m = c.pass.inside.seat.me in
     let v : View = spliced m.0 c.args.parent c.args.side c.args.only in
-    stays_pass m c.store.new.seat.me v c.pass.inside.who c.pass.inside.uses c.pass.inside.added c.pass.inside.taken c.pass.inside.added c.pass.inside.taken c.pass.inside.to_do c.pass.inside.to_do (c.pass.invariant.to_do_is, c.pass.invariant.keyless)
+    stays_pass m c.store.new.seat.me v c.pass.inside.who c.pass.inside.uses c.pass.inside.added c.pass.inside.taken c.pass.inside.added c.pass.inside.taken c.pass.inside.owed c.pass.inside.owed c.pass.invariant.owed_is
     c.pass.invariant (c.store.ensures.2 c.args.parent c.args.row c.args.only c.args.side (search rules)) refl refl refl refl (same_pairs m.0 v c.pass.inside.added c.pass.inside.taken refl refl c.pass.invariant.pairs)

@@ -9,6 +9,7 @@ use Rattle.snap_steps.proofs.Cells.{word_within}
 use Rattle.snap_steps.proofs.Keeps.Leaf.{links_leaf}
 use Rattle.std.proofs.Common.{None, refl, ◌+◌, ◌%◌}
 use Rattle.snap_steps.proofs.Passing.{stays_pass, pair_added}
+use Rattle.snap_steps.proofs.Tallies.{tells_leaf}
 use Rattle.snap_steps.specs.declared.view.View.{View}
 use Rattle.snap_steps.specs.Steps.Writes.{hung, entry}
 use Rattle.snap_model.specs.declared.call.Call.TheVariants.{Put}
@@ -37,5 +38,5 @@ store-requires g c =
 pub invariant_of-pass : goal.invariant_of-pass
 invariant_of-pass g c =
     let t = c.store.ensures.2 in let m = c.pass.inside.seat.me in let e : Entry = entry m.0.who (Put g.J.Leaf.key g.J.Leaf.value) None in let v : View = hung m.0 t.0 e g.J.Leaf.below g.J.Leaf.by_field c.number.result in
-    stays_pass m c.store.new.seat.me v c.pass.inside.who c.pass.inside.uses c.pass.inside.added c.pass.inside.taken ((c.pass.inside.added + 1) % 2 ^ 64) c.pass.inside.taken c.pass.inside.to_do (Some c.args.key) (ap Some c.requires.leaf.0, (λ (e : Some c.args.key ≡ None). cc)) c.pass.invariant t.2 refl refl refl refl
+    stays_pass m c.store.new.seat.me v c.pass.inside.who c.pass.inside.uses c.pass.inside.added c.pass.inside.taken ((c.pass.inside.added + 1) % 2 ^ 64) c.pass.inside.taken c.pass.inside.owed c.one-owed.result (tells_leaf m.0 c.one-owed.result c.args.key g.J.Leaf.key c.args.parent g.J.Leaf.below c.requires.leaf.0 c.requires.leaf.2 c.one-owed.ensures) c.pass.invariant t.2 refl refl refl refl
     (pair_added m.0 v e c.pass.inside.added c.pass.inside.taken refl refl refl refl c.pass.invariant.pairs)

@@ -14,7 +14,7 @@ use Rattle.snap_steps.proofs.Cells.{word_within}
 use Rattle.snap_steps.proofs.Keeps.Writes.{stores}
 use Rattle.snap_model.specs.History.{call_key}
 use Rattle.snap_steps.proofs.Classes.Entering.{key_made}
-use Rattle.snap_steps.proofs.Passing.{stored_to_do}
+use Rattle.snap_steps.proofs.Tallies.{tells_value}
 use Rattle.std.proofs.Common.{ap, ◌∙◌, ◌%◌, ◌^◌, ◌+◌}
 use Rattle.snap_steps.specs.Pairs.{added_by, taken_by}
 use Rattle.snap_model.specs.declared.call.Entry.{Entry}
@@ -29,21 +29,21 @@ swap-was-requires c =
 pub invariant_of-pass : goal.invariant_of-pass
 invariant_of-pass c =
     let t = c.swap-was.ensures.2 c.args.row c.index_of-word.ensures in let m = c.pass.inside.seat.me in
-    let key : c.args.key ≡ t.0 = t.1 c.args.key (subst (λ (k : Known). IsKnown k.view.knows c.args.row Key c.args.key) (sym c.pass.view_is) c.requires.key) in
+    let key : c.args.key ≡ t.0 = t.1 c.args.key (subst (λ (k : Known). IsKnown k.view.words.knows c.args.row Key c.args.key) (sym c.pass.view_is) c.requires.key) in
     let e : Entry = entry m.0.who (call_of t.0 c.args.new) (value_of c.swap-was.result) in
     let v : View = stored m.0 t.3 e c.args.row c.args.new in
-    stays_pass m c.swap-was.new.seat.me v c.pass.inside.who c.pass.inside.uses c.pass.inside.added c.pass.inside.taken ((c.pass.inside.added + c.pairs_added.result) % 2 ^ 64) ((c.pass.inside.taken + c.pairs_taken.result) % 2 ^ 64) c.pass.inside.to_do c.to_do_after-to_do.result (stored_to_do m.0 c.args.key (call_key (call_of t.0 c.args.new)) c.args.row c.args.new c.pass.inside.to_do c.to_do_after-to_do.result (key ∙ sym (key_made t.0 c.args.new)) c.to_do_after-to_do.ensures c.pass.invariant.to_do_is c.pass.invariant.keyless) c.pass.invariant t.5 refl refl refl refl
+    stays_pass m c.swap-was.new.seat.me v c.pass.inside.who c.pass.inside.uses c.pass.inside.added c.pass.inside.taken ((c.pass.inside.added + c.pairs_added.result) % 2 ^ 64) ((c.pass.inside.taken + c.pairs_taken.result) % 2 ^ 64) c.pass.inside.owed c.owed_after-owed.result (tells_value m.0 c.pass.inside.owed c.owed_after-owed.result c.args.key (call_key (call_of t.0 c.args.new)) c.args.row c.args.new (key ∙ sym (key_made t.0 c.args.new)) c.owed_after-owed.ensures c.pass.invariant.owed_is) c.pass.invariant t.5 refl refl refl refl
     (entry_counted m.0 v e c.pass.inside.added c.pass.inside.taken c.pairs_added.result c.pairs_taken.result refl refl
     (c.pairs_added.ensures ∙ ap (λ (k : ℕ). added_by (call_of k c.args.new) (value_of c.swap-was.result)) key)
     (c.pairs_taken.ensures ∙ ap (λ (k : ℕ). taken_by (call_of k c.args.new) (value_of c.swap-was.result)) key) c.pass.invariant.pairs)
 
 pub returns-clause-known : goal.returns-clause-known
-returns-clause-known c = let t = c.swap-was.ensures.2 c.args.row c.index_of-word.ensures in λ x is. t.2 x (subst (λ (k : Known). IsKnown k.view.knows c.args.row Value x) (sym c.pass.view_is) is)
+returns-clause-known c = let t = c.swap-was.ensures.2 c.args.row c.index_of-word.ensures in λ x is. t.2 x (subst (λ (k : Known). IsKnown k.view.words.knows c.args.row Value x) (sym c.pass.view_is) is)
 
 pub returns-clause-entry : goal.returns-clause-entry
 returns-clause-entry c =
     let t = c.swap-was.ensures.2 c.args.row c.index_of-word.ensures in let m = c.pass.inside.seat.me in
-    let key : c.args.key ≡ t.0 = t.1 c.args.key (subst (λ (k : Known). IsKnown k.view.knows c.args.row Key c.args.key) (sym c.pass.view_is) c.requires.key) in
+    let key : c.args.key ≡ t.0 = t.1 c.args.key (subst (λ (k : Known). IsKnown k.view.words.knows c.args.row Key c.args.key) (sym c.pass.view_is) c.requires.key) in
     let there = becomes c.args.pass.now c.pass.inside.seat.table_id c.swap-was.new.seat.table_id m c.swap-was.new.seat.me (λ (v : View). stored v t.3 (entry v.who (call_of t.0 c.args.new) (value_of c.swap-was.result)) c.args.row c.args.new) c.pass.view_is c.swap-was.ensures.0 t.5 in
     let enters : Enters c.args.pass.now.view t.3 (entry c.args.pass.now.view.who (call_of t.0 c.args.new) (value_of c.swap-was.result)) = subst (λ (k : Known). Enters k.view t.3 (entry k.view.who (call_of t.0 c.args.new) (value_of c.swap-was.result))) c.pass.view_is t.4 in (
       t.3,
