@@ -3,25 +3,10 @@ use Rattle.std.proofs.Common.{Option, Some, None, ⊎_elim, ◌≡◌, ◌⊎◌
 use Rattle.snap_copy.specs.Filling.{Keeps}
 use Rattle.snap_search.proofs.Walking.{times-append}
 use Rattle.snap_search.proofs.Working.{with_more, grows_same, grows_on}
-use Rattle.snap_search.specs.Work.{Grows}
-use Rattle.snap_stamp.specs.declared.layout.Field.{Field}
-use Rattle.snap_stamp.specs.declared.layout.Field.TheVariants.{Birth, Stamp}
-use Rattle.snap_stamp.specs.declared.side.Side.{Side}
-use Rattle.snap_steps.specs.Counting.{times, Among}
-use Rattle.snap_steps.specs.Facts.{IsKnown, IsBorn, fact}
-use Rattle.snap_steps.specs.Rule.Epochs.{AllAre}
-use Rattle.snap_steps.specs.Steps.Births.{learnt}
-use Rattle.snap_steps.specs.Steps.Copies.{IsOlder, IsAbove}
-use Rattle.snap_steps.specs.Steps.Draws.{drew}
-use Rattle.snap_steps.specs.Steps.Fields.{read, led_to, own_stored, is_last}
-use Rattle.snap_steps.specs.Steps.Header.{epoch_noted, all_noted}
-use Rattle.snap_steps.specs.States.{link_field}
-use Rattle.snap_steps.specs.Steps.Settling.{HasHeight, IsBelow}
-use Rattle.snap_steps.specs.Steps.Tilts.{IsCopyPlace, IsTilt, Leans}
-use Rattle.snap_steps.specs.declared.view.ChildHeight.{ChildHeight}
-use Rattle.snap_steps.specs.declared.view.View.{View}
-use Rattle.snap_steps.specs.declared.view.WordNote.{WordNote}
-use Rattle.snap_stamp.specs.declared.side.Side.TheVariants as sides
+use Rattle.snap_prelude.specs.{all_noted, AllAre, Among, Birth, ChildHeight, drew, epoch_noted}
+use Rattle.snap_prelude.specs.{fact, Field, Grows, HasHeight, is_last, IsAbove, IsBelow, IsBorn}
+use Rattle.snap_prelude.specs.{IsCopyPlace, IsKnown, IsOlder, IsTilt, Leans, learnt, led_to}
+use Rattle.snap_prelude.specs.{link_field, own_stored, read, Side, Stamp, times, View, WordNote}
 
 pub keeps_on : (u v w : View) → Keeps u v → Keeps v w → Keeps u w
 keeps_on u v w a b = record {
@@ -35,40 +20,40 @@ keeps_on u v w a b = record {
   present = λ e h. b.present e (a.present e h);
   lasting = λ r f x h. b.lasting r f x (a.lasting r f x h);
   worn = λ h. b.worn (a.worn h);
-  refused = grows_on u.refused v.refused w.refused a.refused b.refused;
+  refused = grows_on u.words.refused v.words.refused w.words.refused a.refused b.refused;
 }
 
-more_known : (v : View) (r : ℕ) (f : Field) (x q : ℕ) (g : Field) (y : ℕ) → IsKnown v.knows q g y → IsKnown (read v r f x).knows q g y
+more_known : (v : View) (r : ℕ) (f : Field) (x q : ℕ) (g : Field) (y : ℕ) → IsKnown v.words.knows q g y → IsKnown (read v r f x).words.knows q g y
 more_known v r f x q g y h = go (nat_lt 0 (times r v.holds))
   where
-    go : (b : Bool) → IsKnown (cond b (fact r f x ∷ v.knows) v.knows) q g y
+    go : (b : Bool) → IsKnown (cond b (fact r f x ∷ v.words.knows) v.words.knows) q g y
     go true = inr h
     go false = h
 
-read_grows : (v : View) (r : ℕ) (f : Field) (x : ℕ) → Grows v.refused (read v r f x).refused
+read_grows : (v : View) (r : ℕ) (f : Field) (x : ℕ) → Grows v.words.refused (read v r f x).words.refused
 read_grows v r f x = go (is_last f x)
   where
-    go : (b : Bool) → Grows v.refused (cond b (v.refused ++ fact r f x ∷ []) v.refused)
+    go : (b : Bool) → Grows v.words.refused (cond b (v.words.refused ++ fact r f x ∷ []) v.words.refused)
     go true = (fact r f x ∷ [], refl)
-    go false = grows_same v.refused v.refused refl
+    go false = grows_same v.words.refused v.words.refused refl
 
 pub read_keeps : (v : View) (r : ℕ) (f : Field) (x : ℕ) → Keeps v (read v r f x)
-read_keeps v r f x = record { stage = refl; holds = refl; heights = refl; place = refl; copies = refl; knows = more_known v r f x; reached = λ n. omega (arith, times-append n v.reached (led_to v r f x)); present = λ e h. h; lasting = λ q g y h. h; worn = λ h. ap (λ (b : Bool). b || is_last f x) h; refused = read_grows v r f x }
+read_keeps v r f x = record { stage = refl; holds = refl; heights = refl; place = refl; copies = refl; knows = more_known v r f x; reached = λ n. omega (arith, times-append n v.trail.reached (led_to v r f x)); present = λ e h. h; lasting = λ q g y h. h; worn = λ h. ap (λ (b : Bool). b || is_last f x) h; refused = read_grows v r f x }
 
 pub learnt_keeps : (v : View) (r : ℕ) (f : Field) (x : ℕ) → Keeps v (learnt v r f x)
-learnt_keeps v r f x = record { stage = refl; holds = refl; heights = refl; place = refl; copies = refl; knows = more_known v r f x; reached = λ n. omega (arith, times-append n v.reached (led_to v r f x)); present = λ e h. h; lasting = λ q g y h. inr h; worn = λ h. ap (λ (b : Bool). b || is_last f x) h; refused = read_grows v r f x }
+learnt_keeps v r f x = record { stage = refl; holds = refl; heights = refl; place = refl; copies = refl; knows = more_known v r f x; reached = λ n. omega (arith, times-append n v.trail.reached (led_to v r f x)); present = λ e h. h; lasting = λ q g y h. inr h; worn = λ h. ap (λ (b : Bool). b || is_last f x) h; refused = read_grows v r f x }
 
 pub epoch_keeps : (v : View) (e : ℕ) → Keeps v (epoch_noted v e)
-epoch_keeps v e = record { stage = refl; holds = refl; heights = refl; place = refl; copies = refl; knows = λ q g y h. h; reached = λ n. omega arith; present = λ x h. with_more v.stage e x v.present h; lasting = λ q g y h. h; worn = λ h. h; refused = grows_same v.refused v.refused refl }
+epoch_keeps v e = record { stage = refl; holds = refl; heights = refl; place = refl; copies = refl; knows = λ q g y h. h; reached = λ n. omega arith; present = λ x h. with_more v.stage e x v.words.present h; lasting = λ q g y h. h; worn = λ h. h; refused = grows_same v.words.refused v.words.refused refl }
 
 pub stored_keeps : (v : View) (r : ℕ) (f : Field) (x : ℕ) → Keeps v (own_stored v r f x)
-stored_keeps v r f x = record { stage = refl; holds = refl; heights = refl; place = refl; copies = refl; knows = λ q g y h. h; reached = λ n. omega arith; present = λ e h. h; lasting = λ q g y h. h; worn = λ h. h; refused = grows_same v.refused v.refused refl }
+stored_keeps v r f x = record { stage = refl; holds = refl; heights = refl; place = refl; copies = refl; knows = λ q g y h. h; reached = λ n. omega arith; present = λ e h. h; lasting = λ q g y h. h; worn = λ h. h; refused = grows_same v.words.refused v.words.refused refl }
 
 pub drew_keeps : (v : View) (l : List WordNote) (r : ℕ) → Keeps v (drew (all_noted v l) r)
-drew_keeps v l r = record { stage = refl; holds = refl; heights = refl; place = refl; copies = refl; knows = λ q g y h. h; reached = λ n. omega arith; present = λ e h. h; lasting = λ q g y h. h; worn = λ h. h; refused = grows_same v.refused v.refused refl }
+drew_keeps v l r = record { stage = refl; holds = refl; heights = refl; place = refl; copies = refl; knows = λ q g y h. h; reached = λ n. omega arith; present = λ e h. h; lasting = λ q g y h. h; worn = λ h. h; refused = grows_same v.words.refused v.words.refused refl }
 
 pub noted_keeps : (v : View) (l : List WordNote) → Keeps v (all_noted v l)
-noted_keeps v l = record { stage = refl; holds = refl; heights = refl; place = refl; copies = refl; knows = λ q g y h. h; reached = λ n. omega arith; present = λ e h. h; lasting = λ q g y h. h; worn = λ h. h; refused = grows_same v.refused v.refused refl }
+noted_keeps v l = record { stage = refl; holds = refl; heights = refl; place = refl; copies = refl; knows = λ q g y h. h; reached = λ n. omega arith; present = λ e h. h; lasting = λ q g y h. h; worn = λ h. h; refused = grows_same v.words.refused v.words.refused refl }
 
 pub older_still : (v w : View) (r : ℕ) → Keeps v w → IsOlder v r → IsOlder w r
 older_still v w r k h = record { birth = h.birth; is_birth = k.lasting r Birth h.birth h.is_birth; epoch = h.epoch; now = k.present h.epoch h.now; older = h.older }
@@ -87,7 +72,7 @@ above_still v w key parent side child k h = record {
   one_key = subst (AllAre key) (sym k.copies) h.one_key;
 }
   where
-    lives : ((parent ≡ 0) × (side ≡ sides.Right)) ⊎ ((Among parent v.reached) × IsBorn v parent) → ((parent ≡ 0) × (side ≡ sides.Right)) ⊎ ((Among parent w.reached) × IsBorn w parent)
+    lives : ((parent ≡ 0) × (side ≡ Side.Right)) ⊎ ((Among parent v.trail.reached) × IsBorn v parent) → ((parent ≡ 0) × (side ≡ Side.Right)) ⊎ ((Among parent w.trail.reached) × IsBorn w parent)
     lives (inl z) = inl z
     lives (inr l) = inr (omega (arith, l.0, k.reached parent), born_still v w parent k l.1)
 

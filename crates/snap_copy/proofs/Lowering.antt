@@ -1,31 +1,32 @@
 -- What a repair gets of a copy, or of a child that needs none.
-use Rattle.std.proofs.Common.{⊎_elim, ◌≡◌, ◌⊎◌, ◌∙◌, ◌≤◌, inl, inr, None, Bool, true, false, ℕ, List, [], ◌∷◌, append-nil, refl, sym, ap, subst, arith}
-use mathlib.Core.Logic.{dite}
-use native.Mathlib.Decide.{ℕ_discrete}
-use Rattle.snap_copy.specs.Lowering.{LacksRows, OwnsLower}
+use Rattle.std.proofs.Common.{⊎_elim, ◌≡◌, ◌⊎◌, ◌∙◌, ◌≤◌, inl, inr, None, Bool, true, false, ℕ, List, [], ◌∷◌, ◌++◌, append-nil, refl, sym, ap, subst, arith}
+use Rattle.snap_prelude.proofs.Common.{dite, one_other, removed_other, removed_same, ℕ_discrete}
+use Rattle.snap_copy.specs.Lowering.{IsOwnNow, LacksRows, OwnsLower, wanted}
 use Rattle.snap_copy.specs.Mending.{Firm, LinksWhatItDraws, Mends, MendsTo, NoWord, TellsFull, mended}
-use Rattle.snap_copy.proofs.Copying.{epoch_not_full}
-use Rattle.snap_copy.specs.Owning.{IsCopiedAt, IsOwn, LacksAt, OwnsAt, Stays, stayed}
-use Rattle.snap_rule.specs.State.{In}
-use Rattle.snap_search.specs.Work.{NotesMore}
-use Rattle.snap_stamp.specs.declared.layout.Field.{Field}
-use Rattle.snap_stamp.specs.Sides.{other}
-use Rattle.snap_stamp.specs.declared.side.Side.{Side}
-use Rattle.snap_steps.proofs.Totals.{one_other, removed_other, removed_same}
-use Rattle.snap_steps.specs.Counting.{Among, removed, times}
-use Rattle.snap_steps.specs.Facts.{IsBorn, IsKnown}
-use Rattle.snap_steps.specs.Seen.{Known}
-use Rattle.snap_steps.specs.States.{link_field}
-use Rattle.snap_steps.specs.Steps.Header.{all_handed, handed_after}
-use Rattle.snap_steps.specs.Steps.Settling.{HasHeight, IsBelow}
-use Rattle.snap_steps.specs.Steps.Tilts.{IsBelowTilt, IsTilt}
-use Rattle.snap_steps.specs.declared.view.View.{View}
-use Rattle.snap_steps.specs.declared.view.WordNote.{WordNote}
-use Rattle.snap_steps.specs.declared.view.WordNote.TheVariants.{Next, Gate, Left, Done, Epoch, Birth, Trouble}
+use Rattle.snap_copy.proofs.Copying.{epoch_not_full, stays_by, stays_on, with_copy_on}
+use Rattle.snap_copy.proofs.Keeping.{epoch_keeps, place_still}
+use Rattle.snap_copy.specs.Owning.{IsCopiedAt, IsOwn, Lacks, LacksAt, OwnsAt, Stays, stayed, with_copy}
+use Rattle.snap_copy.specs.declared.Wanted.{Wanted}
+use Rattle.snap_prelude.specs.{all_handed, Among, Becomes, copies_for, Done, Epoch, epoch_noted}
+use Rattle.snap_prelude.specs.{Field, Gate, handed_after, HasHeight, In, IsBelow, IsBelowTilt}
+use Rattle.snap_prelude.specs.{IsBorn, IsKnown, IsTilt, IsWriting, Known, link_field, Next}
+use Rattle.snap_prelude.specs.{NotesMore, other, removed, Side, times, Trouble, View, WordNote}
+use Rattle.snap_search.specs.Prelude.{Works}
+use Rattle.snap_search.proofs.Walking.{sees_on}
+use Rattle.snap_search.proofs.Working.{epoch_now, epoch_works, notes_on, works_on}
+use Rattle.snap_steps.specs.declared.view.WordNote.TheVariants.{Left, Birth}
 
 -- the place of a repair's copy
-pub tilt_place : (v : View) (upper parent : ℕ) (d : Side) → Among parent v.holds → (Among parent v.reached) × IsBorn v parent → (t : IsTilt v upper parent d) → IsBelowTilt v parent d t.child
+tilt_place : (v : View) (upper parent : ℕ) (d : Side) → Among parent v.holds → (Among parent v.trail.reached) × IsBorn v parent → (t : IsTilt v upper parent d) → IsBelowTilt v parent d t.child
 tilt_place v upper parent d held live t = record { held = held; live = live; child_is = t.leads; upper = upper; tilt = t }
+
+-- and it is that still once the epoch was loaded
+pub place_after : (old a : Known) (e upper parent : ℕ) (d : Side) → Becomes old a (epoch_noted old.view e) → Among parent old.view.holds → (Among parent old.view.trail.reached) × IsBorn old.view parent → (t : IsTilt old.view upper parent d) → IsBelowTilt a.view parent d t.child
+place_after old a e upper parent d load held live t = subst (λ (k : Known). IsBelowTilt k.view parent d t.child) (sym load) (place_still old.view (epoch_noted old.view e) None parent d t.child (epoch_keeps old.view e) (tilt_place old.view upper parent d held live t))
+
+-- the epoch that was loaded is that of the write
+pub epoch_after : (old a : Known) (e : ℕ) → IsWriting old.view → Becomes old a (epoch_noted old.view e) → Among e a.view.words.present
+epoch_after old a e writing load = subst (λ (k : Known). Among e k.view.words.present) (sym load) (epoch_now old.view.stage writing.0 writing.1 e old.view.words.present writing.2)
 
 -- a note of a word that was handed out
 most_after : (h : ℕ) (n : WordNote) → h ≤ handed_after h n
@@ -46,7 +47,7 @@ noted_handed h x [] z = absurd z
 noted_handed h x (n ∷ ns) (inl e) = let here : x ≤ handed_after h n = subst (λ (m : WordNote). x ≤ handed_after h m) e (omega arith) in omega (arith, here, least_handed (handed_after h n) ns)
 noted_handed h x (n ∷ ns) (inr k) = noted_handed (handed_after h n) x ns k
 
-none_linked : (v w : View) → w.drawn ≡ v.drawn → w.own ≡ v.own → LinksWhatItDraws v w
+none_linked : (v w : View) → w.drawn ≡ v.drawn → w.fresh.own ≡ v.fresh.own → LinksWhatItDraws v w
 none_linked v w drawn own = record { rows = []; drawn = drawn ∙ sym (append-nil v.drawn); linked = λ r some_r. absurd (omega arith); no_more = λ r. omega (arith, ap (times r) own) }
 
 removed_added : (x r : ℕ) (l : List ℕ) → times r (removed x (x ∷ l)) ≤ times r l
@@ -56,17 +57,17 @@ one_linked : (old new : Known) (parent : ℕ) (d : Side) (copy : ℕ) → IsCopi
 one_linked old new parent d copy c = record {
   rows = copy ∷ [];
   drawn = c.drawn;
-  linked = λ r some_r. dite (ℕ_discrete r copy) (λ same. (ap (times r) c.own ∙ (λ i. times (same i) (removed copy (copy ∷ old.view.own))) ∙ removed_same copy (copy ∷ old.view.own), subst (λ (n : ℕ). Among n new.view.reached) (sym same) c.reached)) (λ ne. absurd (omega (arith, some_r, one_other r copy ne)));
-  no_more = λ r. omega (arith, ap (times r) c.own, removed_added copy r old.view.own);
+  linked = λ r some_r. dite (ℕ_discrete r copy) (λ same. (ap (times r) c.own ∙ (λ i. times (same i) (removed copy (copy ∷ old.view.fresh.own))) ∙ removed_same copy (copy ∷ old.view.fresh.own), subst (λ (n : ℕ). Among n new.view.trail.reached) (sym same) c.reached)) (λ ne. absurd (omega (arith, some_r, one_other r copy ne)));
+  no_more = λ r. omega (arith, ap (times r) c.own, removed_added copy r old.view.fresh.own);
 }
 
 -- with the keys of its copies as they were
 abbrev with_copies : Known → View → List ℕ → Known
-with_copies k w l = record { table = k.table; view = record (stayed k w).view { copies = l } }
+with_copies k w l = record { table = k.table; view = record (stayed k w).view { fresh = record w.fresh { copies = l } } }
 
 stays_mended : (old new : Known) (changed : ℕ → Field → Type 0) → Stays old new None changed → new ≡ mended old new.view
 stays_mended old new changed s =
-    let e : new ≡ with_copies old new.view old.view.copies = s.is ∙ ap (with_copies old new.view) (s.copies refl) in
+    let e : new ≡ with_copies old new.view old.view.fresh.copies = s.is ∙ ap (with_copies old new.view) (s.copies refl) in
     e ∙ ap (λ (k : Known). mended old k.view) (sym e)
 
 abbrev stays_mends : (full : Bool) (old new : Known) (changed : ℕ → Field → Type 0) (more : List WordNote) → Stays old new None changed → LinksWhatItDraws old.view new.view → NotesMore old.view new.view more → TellsFull full old.view.rows more → MendsTo full old new
@@ -89,31 +90,93 @@ stays_firm old new changed s m = record {
   held = λ r h. subst (λ (k : Known). Among r k.view.holds) (sym s.is) h;
   knows = s.knows;
   heights = λ q d h i. subst (λ (k : Known). IsBelow k.view.heights q d h) (sym s.is) i;
-  place = ap (λ (k : Known). k.view.place) s.is;
+  place = ap (λ (k : Known). k.view.way.place) s.is;
   debt = ap (λ (k : Known). k.view.debt) s.is;
 }
 
-pub owns_lower : (rows : ℕ) (old new : Known) (parent : ℕ) (d : Side) (child : ℕ) → OwnsAt rows old new None parent d child → OwnsLower rows old new parent d child
-owns_lower rows old new parent d child o = record {
-  firm = stays_firm old new link o.stays (mends o.owns);
-  holds = ap (λ (k : Known). k.view.holds) o.stays.is;
-  leads = leads o.owns;
-  low = o.low;
-  is_row = o.is_row;
-  reached = o.reached;
-  owns = o.owns;
-}
-  where
-    link : ℕ → Field → Type 0
-    link q g = (q ≡ parent) × (g ≡ link_field d)
+-- the load of the epoch that comes before
+module _ (old a new : Known) (e : ℕ) (load : Becomes old a (epoch_noted old.view e)) where
+  loaded : Works old a (Epoch e ∷ [])
+  loaded = epoch_works old a e load
 
-    mends : IsOwn old new parent d child ⊎ IsCopiedAt old new None parent d child → Mends old new
-    mends (inl h) = stays_mends false old new link (Epoch h.epoch ∷ []) o.stays (none_linked old.view new.view (ap (λ (k : Known). k.view.drawn) h.works.is) (ap (λ (k : Known). k.view.own) h.works.is)) h.works.noted (epoch_not_full old.view.rows h.epoch [] (λ z. z))
-    mends (inr c) = stays_mends false old new link c.more o.stays (one_linked old new parent d child c) c.noted c.left
+  pub stays_after : (changed : ℕ → Field → Type 0) → Stays a new None changed → Stays old new None changed
+  stays_after changed s = stays_on old a new None changed (stays_by old a None (epoch_noted old.view e) load refl (epoch_keeps old.view e)) s
 
-    leads : IsOwn old new parent d child ⊎ IsCopiedAt old new None parent d child → IsKnown new.view.knows parent (link_field d) child
-    leads (inl h) = h.child_is
-    leads (inr c) = c.child_is
+  knew : (q : ℕ) (f : Field) (x : ℕ) → IsKnown a.view.words.knows q f x → IsKnown old.view.words.knows q f x
+  knew q f x h = subst (λ (k : Known). IsKnown k.view.words.knows q f x) load h
+
+  own_after : (at : Wanted) (child : ℕ) → IsOwn a new [] at child → IsOwn old new (Epoch e ∷ []) at child
+  own_after at child h = record {
+    works = works_on old a new (Epoch e ∷ []) [] loaded h.works;
+    now = h.now;
+    birth = h.birth;
+    was = knew at.parent (link_field at.side) child h.was;
+    child_is = h.child_is;
+  }
+
+  copied_after : (parent : ℕ) (d : Side) (copy : ℕ) → IsCopiedAt a new None parent d copy → IsCopiedAt old new None parent d copy
+  copied_after parent d copy c = record {
+    is = with_copy_on old a new (load ∙ ap (λ (k : Known). with_copy old k.view) (sym load)) c.is;
+    child = c.child;
+    was = knew parent (link_field d) c.child c.was;
+    older = c.older;
+    filled = c.filled;
+    holds = c.holds;
+    linked = c.linked;
+    drawn = c.drawn ∙ ap (λ (k : Known). k.view.drawn ++ copy ∷ []) load;
+    own = c.own ∙ ap (λ (k : Known). removed copy (copy ∷ k.view.fresh.own)) load;
+    more = Epoch e ∷ c.more;
+    noted = notes_on old.view a.view new.view (Epoch e ∷ []) c.more loaded.noted c.noted;
+    left = epoch_not_full old.view.rows e c.more (subst (λ (k : Known). In (Next k.view.rows) c.more → ⊥) load c.left);
+    sees = sees_on old.view a.view new.view (ap (λ (k : Known). k.view.who) load) (ap (λ (k : Known). k.view.mine) load) loaded.sees c.sees;
+    kept = λ r. omega (arith, loaded.kept r, c.kept r);
+    reached = c.reached;
+    present = λ x h. c.present x (loaded.present x h);
+    child_is = c.child_is;
+    copies = c.copies ∙ ap (λ (k : Known). copies_for k.view.fresh.copies None) load;
+  }
+
+  pub lacks_after : (parent : ℕ) (d : Side) → (rows : ℕ) → Lacks rows a new parent d → Lacks rows old new parent d
+  lacks_after parent d rows l = record {
+    child = l.child;
+    older = l.older;
+    child_is = l.child_is;
+    more = Epoch e ∷ l.more;
+    works = works_on old a new (Epoch e ∷ []) l.more loaded l.works;
+    full = inr l.full;
+  }
+
+  pub owns_lower : (rows parent : ℕ) (d : Side) (child : ℕ) → OwnsAt rows a new None (wanted parent d e) child → OwnsLower rows old new parent d child
+  owns_lower rows parent d child o = record {
+    firm = stays_firm old new link stays (mends owns);
+    holds = ap (λ (k : Known). k.view.holds) stays.is;
+    leads = leads owns;
+    low = o.low;
+    is_row = o.is_row;
+    reached = o.reached;
+    owns = owns;
+  }
+    where
+      link : ℕ → Field → Type 0
+      link q g = (q ≡ parent) × (g ≡ link_field d)
+
+      stays : Stays old new None link
+      stays = stays_after link o.stays
+
+      with_load : IsOwn a new [] (wanted parent d e) child ⊎ IsCopiedAt a new None parent d child → IsOwnNow old new parent d child ⊎ IsCopiedAt old new None parent d child
+      with_load (inl h) = inl (e, own_after (wanted parent d e) child h)
+      with_load (inr c) = inr (copied_after parent d child c)
+
+      owns : IsOwnNow old new parent d child ⊎ IsCopiedAt old new None parent d child
+      owns = with_load o.owns
+
+      mends : IsOwnNow old new parent d child ⊎ IsCopiedAt old new None parent d child → Mends old new
+      mends (inl h) = let w = h.1.works in stays_mends false old new link (Epoch h.0 ∷ []) stays (none_linked old.view new.view (ap (λ (k : Known). k.view.drawn) w.is) (ap (λ (k : Known). k.view.fresh.own) w.is)) w.noted (epoch_not_full old.view.rows h.0 [] (λ z. z))
+      mends (inr c) = stays_mends false old new link c.more stays (one_linked old new parent d child c) c.noted c.left
+
+      leads : IsOwnNow old new parent d child ⊎ IsCopiedAt old new None parent d child → IsKnown new.view.words.knows parent (link_field d) child
+      leads (inl h) = h.1.child_is
+      leads (inr c) = c.child_is
 
 -- the row leans still
 tilt_stays : (old new : Known) (upper parent : ℕ) (d : Side) → Stays old new None NoWord → IsTilt old.view upper parent d → IsTilt new.view upper parent d
@@ -126,17 +189,19 @@ tilt_stays old new upper parent d s t = let l = t.leans in record {
   leads = knows parent (link_field d) t.child t.leads;
 }
   where
-    knows : (q : ℕ) (f : Field) (x : ℕ) → IsKnown old.view.knows q f x → IsKnown new.view.knows q f x
+    knows : (q : ℕ) (f : Field) (x : ℕ) → IsKnown old.view.words.knows q f x → IsKnown new.view.words.knows q f x
     knows q f x h = s.knows q f x (λ z. z) h
 
     height : (e : Side) (x : ℕ) → HasHeight old.view upper e x → HasHeight new.view upper e x
     height e x h = ⊎_elim (λ z. inl (knows upper (link_field e) 0 z.0, z.1)) (λ z. inr (subst (λ (k : Known). IsBelow k.view.heights upper e x) (sym s.is) z)) h
 
-pub lacks_rows : (rows found : ℕ) (old new : Known) (parent upper : ℕ) (d : Side) → old.view.rows ≡ rows → IsTilt old.view upper parent d → LacksAt rows old new None parent d found → LacksRows rows old new parent d found
-lacks_rows rows found old new parent upper d size tilt l = let w = l.lacks.works in record {
-  mends = stays_mends true old new NoWord l.lacks.more l.stays (none_linked old.view new.view (ap (λ (k : Known). k.view.drawn) w.is) (ap (λ (k : Known). k.view.own) w.is)) w.noted (subst (λ (n : ℕ). In (Next n) l.lacks.more) (sym size) l.lacks.full);
-  holds = ap (λ (k : Known). k.view.holds) l.stays.is;
-  wants = record { child = l.lacks.child; child_is = l.lacks.child_is; older = l.lacks.older; upper = upper; tilt = tilt_stays old new upper parent d l.stays tilt };
-  all = l.all;
-  full = omega (arith, noted_handed old.view.handed rows l.lacks.more l.lacks.full, w.noted.handed);
-}
+pub lacks_rows : (rows found : ℕ) (old a new : Known) (e parent upper : ℕ) (d : Side) → Becomes old a (epoch_noted old.view e) → old.view.rows ≡ rows → IsTilt old.view upper parent d → LacksAt rows a new None (wanted parent d e) found → LacksRows rows old new parent d found
+lacks_rows rows found old a new e parent upper d load size tilt l =
+    let lacks : Lacks rows old new parent d = lacks_after old a new e load parent d rows l.lacks in let w = lacks.works in
+    let stays : Stays old new None NoWord = stays_after old a new e load NoWord l.stays in record {
+      mends = stays_mends true old new NoWord lacks.more stays (none_linked old.view new.view (ap (λ (k : Known). k.view.drawn) w.is) (ap (λ (k : Known). k.view.fresh.own) w.is)) w.noted (subst (λ (n : ℕ). In (Next n) lacks.more) (sym size) lacks.full);
+      holds = ap (λ (k : Known). k.view.holds) stays.is;
+      wants = record { child = lacks.child; child_is = lacks.child_is; older = lacks.older; upper = upper; tilt = tilt_stays old new upper parent d stays tilt };
+      all = l.all;
+      full = omega (arith, noted_handed old.view.noted.handed rows lacks.more lacks.full, w.noted.handed);
+    }

@@ -1,96 +1,101 @@
 -- What a write leaves behind where it makes the child of a held row its own.
 use Rattle.std.specs.Prelude.{◌≡◌, ◌≢◌, ◌⊎◌, ◌≤◌, ℕ, List, [], ◌∷◌, ◌++◌, Option, None, Some}
 use Rattle.snap_copy.specs.Mending.{NoWord}
-use Rattle.snap_rule.specs.State.{In}
-use Rattle.snap_search.specs.Walk.{KeepsReached, SeesMore}
-use Rattle.snap_search.specs.Work.{worked, Works, Grows, NotesMore, KeepsPresent, KeepsLasting}
-use Rattle.snap_stamp.specs.declared.layout.Field.{Field}
-use Rattle.snap_stamp.specs.declared.layout.Field.TheVariants.{Birth}
-use Rattle.snap_stamp.specs.declared.side.Side.{Side}
-use Rattle.snap_steps.specs.Counting.{Among, removed}
-use Rattle.snap_steps.specs.Facts.{IsKnown}
-use Rattle.snap_steps.specs.Seen.{Known}
-use Rattle.snap_steps.specs.States.{link_field}
-use Rattle.snap_steps.specs.Steps.Copies.{IsCopy, IsOlder, copied, copies_for}
-use Rattle.snap_steps.specs.declared.view.View.{View}
-use Rattle.snap_steps.specs.declared.view.WordNote.{WordNote}
-use Rattle.snap_steps.specs.declared.view.WordNote.TheVariants.{Next, Epoch}
+use Rattle.snap_copy.specs.declared.Wanted.{Wanted}
+use Rattle.snap_prelude.specs.{Among, Birth, copied, copies_for, Field, Grows, In, IsCopy, IsKnown}
+use Rattle.snap_prelude.specs.{IsOlder, KeepsLasting, KeepsPresent, KeepsReached, Known, link_field}
+use Rattle.snap_prelude.specs.{Next, NotesMore, removed, SeesMore, Side, View, WordNote}
+use Rattle.snap_search.specs.Prelude.{worked, Works}
 
--- the child below the held row is of this epoch already
-pub record IsOwn (old new : Known) (parent : ℕ) (side : Side) (child : ℕ) : Type 0 where
-  pub epoch : ℕ
-  pub works : Works old new (Epoch epoch ∷ [])
-  pub now : Among epoch new.view.present
-  pub birth : IsKnown new.view.lasting child Birth epoch
-  pub was : IsKnown old.view.knows parent (link_field side) child
-  pub child_is : IsKnown new.view.knows parent (link_field side) child
+-- the child below the held row is of this epoch already. The pass went on with its work, which left
+-- these notes
+pub record IsOwn (old new : Known) (notes : List WordNote) (at : Wanted) (child : ℕ) : Type 0 where
+  pub works : Works old new notes
+  pub now : Among at.epoch new.view.words.present
+  pub birth : IsKnown new.view.words.lasting child Birth at.epoch
+  pub was : IsKnown old.view.words.knows at.parent (link_field at.side) child
+  pub child_is : IsKnown new.view.words.knows at.parent (link_field at.side) child
 
 -- the pass with what another view has of its work, and of the rows that it drew
 abbrev pub with_copy : Known → View → Known
-with_copy k w = record { table = k.table; view = record (worked k w).view { drawn = w.drawn; own = w.own; wrote = w.wrote; copies = w.copies } }
+with_copy k w =
+    record { table = k.table; view = record (worked k w).view { drawn = w.drawn; fresh = w.fresh } }
 
--- the link led to a child of an earlier epoch, and a row that was drawn for it has taken its place: the pass had stored in it that child's key, value, height and links, and the epoch as its birth, and then led the link to it
-pub record IsCopiedAt (old new : Known) (key : Option ℕ) (parent : ℕ) (side : Side) (copy : ℕ) : Type 0 where
+-- the link led to a child of an earlier epoch, and a row that was drawn for it has taken its place:
+-- the pass had stored in it that child's key, value, height and links, and the epoch as its birth,
+-- and then led the link to it
+pub record IsCopiedAt (old new : Known) (key : Option ℕ) (parent : ℕ) (side : Side)
+    (copy : ℕ) : Type 0 where
   pub is : new ≡ with_copy old new.view
   pub child : ℕ
-  pub was : IsKnown old.view.knows parent (link_field side) child
+  pub was : IsKnown old.view.words.knows parent (link_field side) child
   pub older : IsOlder new.view child
   pub filled : View
   pub holds : IsCopy filled copy child
   pub linked : new.view ≡ copied filled key parent (link_field side) copy
   pub drawn : new.view.drawn ≡ old.view.drawn ++ copy ∷ []
-  pub own : new.view.own ≡ removed copy (copy ∷ old.view.own)
+  pub own : new.view.fresh.own ≡ removed copy (copy ∷ old.view.fresh.own)
   pub more : List WordNote
   pub noted : NotesMore old.view new.view more
   pub left : In (Next old.view.rows) more → ⊥
   pub sees : SeesMore old.view new.view
   pub kept : KeepsReached old.view new.view
-  pub reached : Among copy new.view.reached
+  pub reached : Among copy new.view.trail.reached
   pub present : KeepsPresent old.view new.view
-  pub child_is : IsKnown new.view.knows parent (link_field side) copy
-  pub copies : new.view.copies ≡ copies_for old.view.copies key
+  pub child_is : IsKnown new.view.words.knows parent (link_field side) copy
+  pub copies : new.view.fresh.copies ≡ copies_for old.view.fresh.copies key
 
 -- at the place of a key
-abbrev pub IsCopied : Known → Known → ℕ → ℕ → Side → ℕ → Type 0
-IsCopied old new key parent side copy = IsCopiedAt old new (Some key) parent side copy
+abbrev pub IsCopied : Known → Known → ℕ → Wanted → ℕ → Type 0
+IsCopied old new key at copy = IsCopiedAt old new (Some key) at.parent at.side copy
 
 -- the row is the child below the held one, and is of this epoch
-abbrev pub Owns : ℕ → Known → Known → ℕ → ℕ → Side → ℕ → Type 0
-Owns rows old new key parent side row = IsOwn old new parent side row ⊎ IsCopied old new key parent side row
+abbrev pub Owns : Known → Known → ℕ → Wanted → ℕ → Type 0
+Owns old new key at row = IsOwn old new [] at row ⊎ IsCopied old new key at row
 
--- the child is of an earlier epoch, and this call found that every row was handed out. Nothing was drawn
+-- the child is of an earlier epoch, and this call found that every row was handed out. Nothing was
+-- drawn
 pub record Lacks (rows : ℕ) (old new : Known) (parent : ℕ) (side : Side) : Type 0 where
   pub child : ℕ
   pub older : IsOlder new.view child
-  pub child_is : IsKnown new.view.knows parent (link_field side) child
+  pub child_is : IsKnown new.view.words.knows parent (link_field side) child
   pub more : List WordNote
   pub works : Works old new more
   pub full : In (Next rows) more
 
 -- the pass with what another view has of its knowledge, its rows and its copies
 abbrev pub stayed : Known → View → Known
-stayed k w = record { table = k.table; view = record k.view { steps = w.steps; refused = w.refused; reached = w.reached; notes = w.notes; handed = w.handed; epochs = w.epochs; worn = w.worn; present = w.present; knows = w.knows; lasting = w.lasting; drawn = w.drawn; own = w.own; wrote = w.wrote; copies = w.copies } }
+stayed k w =
+    record {
+      table = k.table;
+      view = record k.view
+          { trail = w.trail; noted = w.noted; words = w.words; fresh = w.fresh; drawn = w.drawn };
+    }
 
--- nothing else of the pass changed, and what it knew it still knows, but of some words. Without a key its copies have the keys that they had
+-- nothing else of the pass changed, and what it knew it still knows, but of some words. Without a
+-- key its copies have the keys that they had
 pub record Stays (old new : Known) (key : Option ℕ) (changed : ℕ → Field → Type 0) : Type 0 where
   pub is : new ≡ stayed old new.view
-  pub copies : key ≡ None → new.view.copies ≡ old.view.copies
-  pub knows : (q : ℕ) (f : Field) (x : ℕ) → (changed q f → ⊥) → IsKnown old.view.knows q f x → IsKnown new.view.knows q f x
+  pub copies : key ≡ None → new.view.fresh.copies ≡ old.view.fresh.copies
+  pub knows : (q : ℕ) (f : Field) (x : ℕ) → (changed q f → ⊥) → IsKnown old.view.words.knows q f x
+      → IsKnown new.view.words.knows q f x
   pub reached : KeepsReached old.view new.view
   pub present : KeepsPresent old.view new.view
   pub lasting : KeepsLasting old.view new.view
-  pub refused : Grows old.view.refused new.view.refused
+  pub refused : Grows old.view.words.refused new.view.words.refused
 
 -- the row is the child below the held one and of this epoch, by either place of a copy
-pub record OwnsAt (rows : ℕ) (old new : Known) (key : Option ℕ) (parent : ℕ) (side : Side) (row : ℕ) : Type 0 where
-  pub owns : IsOwn old new parent side row ⊎ IsCopiedAt old new key parent side row
-  pub stays : Stays old new key (λ q f. (q ≡ parent) × (f ≡ link_field side))
+pub record OwnsAt (rows : ℕ) (old new : Known) (key : Option ℕ) (at : Wanted)
+    (row : ℕ) : Type 0 where
+  pub owns : IsOwn old new [] at row ⊎ IsCopiedAt old new key at.parent at.side row
+  pub stays : Stays old new key (λ q f. (q ≡ at.parent) × (f ≡ link_field at.side))
   pub low : row ≤ rows
   pub is_row : row ≢ 0
-  pub reached : Among row new.view.reached
+  pub reached : Among row new.view.trail.reached
 
 -- every row was handed out, and no known word was forgotten
-pub record LacksAt (rows : ℕ) (old new : Known) (key : Option ℕ) (parent : ℕ) (side : Side) (found : ℕ) : Type 0 where
+pub record LacksAt (rows : ℕ) (old new : Known) (key : Option ℕ) (at : Wanted)
+    (found : ℕ) : Type 0 where
   pub all : found ≡ rows
-  pub lacks : Lacks rows old new parent side
+  pub lacks : Lacks rows old new at.parent at.side
   pub stays : Stays old new key NoWord

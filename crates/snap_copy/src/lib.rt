@@ -5,21 +5,22 @@ ghost use Rattle.std.specs.Prelude.{◌≡◌, ◌≢◌, ◌<◌, ◌≤◌, �
 ghost use Rattle.snap_copy.specs.Lowering.{OwnsLower, LacksRows};
 ghost use Rattle.snap_copy.specs.Owning.{OwnsAt, LacksAt};
 ghost use Rattle.snap_copy.specs.Filling.{Finds, Fills, CopiesWord};
-ghost use Rattle.snap_rule.specs.declared.change.Doing.TheVariants.{Nothing};
-ghost use Rattle.snap_stamp.specs.declared.layout.Field.TheVariants.{Lock, Stamp};
-ghost use Rattle.snap_steps.specs.Counting.{Among};
-ghost use Rattle.snap_steps.specs.Facts.{IsBorn};
-ghost use Rattle.snap_steps.specs.Seen.{IsOf};
-ghost use Rattle.snap_steps.specs.States.{link_field};
-ghost use Rattle.snap_steps.specs.Steps.Copies.{IsOlder, IsAbove};
-ghost use Rattle.snap_steps.specs.Steps.Tilts.{IsCopyPlace, IsHeldLink, IsTilt, IsWriting};
-ghost use Rattle.snap_steps.specs.declared.view.Stage.TheVariants.{Writing};
+ghost use Rattle.snap_prelude.specs.{Among, IsAbove, IsBorn, IsCopyPlace, IsHeldLink, IsOf};
+ghost use Rattle.snap_prelude.specs.{IsOlder, IsTilt, IsWriting, Lock, Nothing, Stamp, Writing};
 
 use snap_stamp::{Field, Key, RowNo, Side};
 use snap_steps::{
     Full, Pass, Rows, draw, link_copy, load_birth, load_epoch, load_shared, load_word, store_own,
 };
 use std::sync::Wait;
+
+/// Where a row of this epoch is wanted: in the link of a held row on a side. The epoch is that of the write.
+#[derive(Clone, Copy)]
+pub struct Wanted {
+    pub parent: RowNo,
+    pub side: Side,
+    pub epoch: u64,
+}
 
 /// The child of a held row, as a row of this epoch: the child itself, or a copy that takes its place. The held row is
 /// the place that the search of this write found for the key. `Full` comes only where the child is of an earlier epoch
@@ -29,17 +30,19 @@ pub fn own_child<R: Wait>(
     rt: &R,
     pass: &mut Pass,
     key: Key,
-    parent: RowNo,
-    side: Side,
+    at: &Wanted,
 ) -> Result<RowNo, Full>
     requires table { IsOf pass.old rows.now }
-    requires parent { parent ≤ rows.now.rows }
+    requires parent { at.now.parent ≤ rows.now.rows }
+    requires epoch { Among at.now.epoch pass.old.view.words.present }
     requires writing { pass.old.view.stage ≡ Writing false false }
     requires whole { pass.old.view.doing ≡ Nothing }
-    requires place { (child : ℕ) × (child ≢ 0) × IsAbove pass.old.view key parent side child }
-    ensures { MatchResult result (λ c. OwnsAt rows.now.rows pass.old pass.new (Some key) parent side c) (λ f. LacksAt rows.now.rows pass.old pass.new (Some key) parent side f.rows) }
+    requires place { (child : ℕ) × (child ≢ 0)
+        × IsAbove pass.old.view key at.now.parent at.now.side child }
+    ensures { MatchResult result (λ c. OwnsAt rows.now.rows pass.old pass.new (Some key) at.now c)
+        (λ f. LacksAt rows.now.rows pass.old pass.new (Some key) at.now f.rows) }
 {
-    own_at(rows, rt, pass, Some(key), parent, side)
+    own_at(rows, rt, pass, Some(key), at)
 }
 
 /// The same for a repair: the pass holds a row of which one side is higher by two at least, and the parent is that row
@@ -57,11 +60,18 @@ pub fn own_lower<R: Wait>(
     requires writing { IsWriting pass.old.view }
     requires whole { pass.old.view.doing ≡ Nothing }
     requires held { Among parent pass.old.view.holds }
-    requires live { (Among parent pass.old.view.reached) × IsBorn pass.old.view parent }
+    requires live { (Among parent pass.old.view.trail.reached) × IsBorn pass.old.view parent }
     requires tilt { (upper : ℕ) × IsTilt pass.old.view upper parent side }
-    ensures { MatchResult result (λ c. OwnsLower rows.now.rows pass.old pass.new parent side c) (λ f. LacksRows rows.now.rows pass.old pass.new parent side f.rows) }
+    ensures { MatchResult result (λ c. OwnsLower rows.now.rows pass.old pass.new parent side c)
+        (λ f. LacksRows rows.now.rows pass.old pass.new parent side f.rows) }
 {
-    own_at(rows, rt, pass, None, parent, side)
+    let epoch = load_epoch(rows, pass);
+    let at = Wanted {
+        parent,
+        side,
+        epoch,
+    };
+    own_at(rows, rt, pass, None, &at)
 }
 
 // The place is that of the key, or without one that of a repair.
@@ -70,26 +80,27 @@ fn own_at<R: Wait>(
     rt: &R,
     pass: &mut Pass,
     key: Option<Key>,
-    parent: RowNo,
-    side: Side,
+    at: &Wanted,
 ) -> Result<RowNo, Full>
     requires table { IsOf pass.old rows.now }
-    requires parent { parent ≤ rows.now.rows }
+    requires parent { at.now.parent ≤ rows.now.rows }
+    requires epoch { Among at.now.epoch pass.old.view.words.present }
     requires writing { IsWriting pass.old.view }
     requires whole { pass.old.view.doing ≡ Nothing }
-    requires place { (child : ℕ) × (child ≢ 0) × IsCopyPlace pass.old.view key parent side child }
-    ensures { MatchResult result (λ c. OwnsAt rows.now.rows pass.old pass.new key parent side c) (λ f. LacksAt rows.now.rows pass.old pass.new key parent side f.rows) }
+    requires place { (child : ℕ) × (child ≢ 0)
+        × IsCopyPlace pass.old.view key at.now.parent at.now.side child }
+    ensures { MatchResult result (λ c. OwnsAt rows.now.rows pass.old pass.new key at.now c)
+        (λ f. LacksAt rows.now.rows pass.old pass.new key at.now f.rows) }
 {
-    let child = child_of(rows, pass, parent, side);
-    let epoch = load_epoch(rows, pass);
+    let child = child_of(rows, pass, at.parent, at.side);
     let birth = load_birth(rows, pass, child);
-    if birth >= epoch {
+    if birth >= at.epoch {
         return Ok(child);
     }
     match draw(rows, rt, pass) {
         Ok(copy) => {
-            fill(rows, pass, child, copy, epoch);
-            link_copy(rows, pass, key, parent, side, child, copy);
+            fill(rows, pass, child, copy, at.epoch);
+            link_copy(rows, pass, key, at.parent, at.side, child, copy);
             Ok(copy)
         }
         Err(full) => Err(full),
@@ -103,17 +114,17 @@ fn child_of(rows: &Rows, pass: &mut Pass, parent: RowNo, side: Side) -> RowNo
     requires place { (child : ℕ) × (child ≢ 0) × IsHeldLink pass.old.view parent side child }
     ensures { Finds rows.now.rows pass.old pass.new parent side result }
 {
-    let word = load_word(rows, pass, parent, link_of(side));
-    row_of(rows, word)
+    let word = load_word(rows, pass, parent, side.link());
+    rows.row_of(word)
 }
 
 // Makes a row of the pass a copy of the child in this epoch.
 fn fill(rows: &Rows, pass: &mut Pass, child: RowNo, copy: RowNo, epoch: u64)
     requires table { IsOf pass.old rows.now }
     requires rows { (child ≤ rows.now.rows) × (copy ≤ rows.now.rows) }
-    requires own { Among copy pass.old.view.own }
+    requires own { Among copy pass.old.view.fresh.own }
     requires older { IsOlder pass.old.view child }
-    requires epoch { Among epoch pass.old.view.present }
+    requires epoch { Among epoch pass.old.view.words.present }
     requires whole { pass.old.view.doing ≡ Nothing }
     ensures { Fills pass.old pass.new child copy }
 {
@@ -128,7 +139,7 @@ fn fill(rows: &Rows, pass: &mut Pass, child: RowNo, copy: RowNo, epoch: u64)
 fn copy_word(rows: &Rows, pass: &mut Pass, child: RowNo, copy: RowNo, field: Field)
     requires table { IsOf pass.old rows.now }
     requires rows { (child ≤ rows.now.rows) × (copy ≤ rows.now.rows) }
-    requires own { Among copy pass.old.view.own }
+    requires own { Among copy pass.old.view.fresh.own }
     requires older { IsOlder pass.old.view child }
     requires field { (field ≢ Lock) × (field ≢ Stamp) }
     requires whole { pass.old.view.doing ≡ Nothing }
@@ -136,21 +147,4 @@ fn copy_word(rows: &Rows, pass: &mut Pass, child: RowNo, copy: RowNo, field: Fie
 {
     let word = load_shared(rows, pass, child, field);
     store_own(rows, pass, copy, field, word);
-}
-
-fn row_of(rows: &Rows, word: u64) -> RowNo
-    requires { word ≤ rows.now.rows }
-    ensures { result ≡ word }
-{
-    let _all = rows.count();
-    RowNo::of(word as u32)
-}
-
-fn link_of(side: Side) -> Field
-    ensures { result ≡ link_field side }
-{
-    match side {
-        Side::Left => Field::Left,
-        Side::Right => Field::Right,
-    }
 }

@@ -3,11 +3,7 @@
 
 ghost use Rattle.std.specs.Prelude.{◌≡◌, ◌⊎◌, ◌<◌, ◌≤◌, Bool};
 ghost use Rattle.snap_locks.specs.Held.{HasLocked};
-ghost use Rattle.snap_rule.specs.declared.change.Doing.TheVariants.{Nothing};
-ghost use Rattle.snap_steps.specs.Counting.{times};
-ghost use Rattle.snap_steps.specs.Seen.{IsOf, Becomes};
-ghost use Rattle.snap_steps.specs.Steps.Locks.{unlocked};
-ghost use Rattle.snap_steps.specs.declared.view.Stage.TheVariants.{Writing};
+ghost use Rattle.snap_prelude.specs.{Becomes, IsOf, Nothing, times, unlocked, Writing};
 
 use snap_stamp::RowNo;
 use snap_steps::{Pass, Rows, free_lock, try_lock};
@@ -17,10 +13,11 @@ use std::sync::Wait;
 pub fn lock<R: Wait>(rows: &Rows, rt: &R, pass: &mut Pass, row: RowNo)
     requires table { IsOf pass.old rows.now }
     requires row { row ≤ rows.now.rows }
-    requires writing { (made : Bool) × (counted : Bool) × (pass.old.view.stage ≡ Writing made counted) }
+    requires writing { (made : Bool) × (counted : Bool)
+        × (pass.old.view.stage ≡ Writing made counted) }
     requires free { times row pass.old.view.holds ≡ 0 }
     requires whole { pass.old.view.doing ≡ Nothing }
-    requires reached { (row ≡ 0) ⊎ (0 < times row pass.old.view.reached) }
+    requires reached { (row ≡ 0) ⊎ (0 < times row pass.old.view.trail.reached) }
     ensures { HasLocked pass.old pass.new row }
 {
     for _ in rt.forever() {

@@ -1,42 +1,29 @@
 -- A search for the end of a way, for a repair: it begins, goes on and ends.
-use Rattle.std.proofs.Common.{◌≡◌, inl, inr, ℕ, List, [], ◌∷◌, ◌++◌, Bool, refl, sym, ap, ◌∙◌, subst, arith}
-use Rattle.snap_rule.specs.declared.reader.Point.TheVariants.{Standing}
-use Rattle.snap_rule.specs.declared.reader.Reading.TheVariants.{On}
-use Rattle.snap_search.specs.Endings.{EndsOn, IsAt, end_at, FindsEnd, Follows}
-use Rattle.snap_search.specs.Places.{Comes, Goes, EndsAt, EndsFrom, births_of}
-use Rattle.snap_search.specs.Work.{Works}
-use Rattle.snap_search.specs.declared.down.Spot.{Spot}
-use Rattle.snap_search.specs.declared.endings.Ending.{Ending}
-use Rattle.snap_search.specs.declared.places.Place.{Place}
-use Rattle.snap_search.specs.declared.places.Place.TheVariants.{Here, Below, Shared}
+use Rattle.std.proofs.Common.{◌≡◌, inl, inr, ℕ, ◌≤◌, List, [], ◌∷◌, ◌++◌, Bool, refl, sym, ap, ◌∙◌, subst, arith}
+use Rattle.snap_prelude.specs.{Among, Becomes, begun_again, Epoch, epoch_noted, IsKnown}
+use Rattle.snap_prelude.specs.{Known, On, Right, Standing, times, WordNote, Writing}
+use Rattle.snap_search.specs.Prelude.{Below, births_of, Comes, end_at, end_below, Ending}
+use Rattle.snap_search.specs.Prelude.{EndsAt, EndsFrom, EndsOn, FindsEnd, Follows, Goes, Here}
+use Rattle.snap_search.specs.Prelude.{IsAt, IsReached, Place, Shared, Spot, WentFrom, Works}
 use Rattle.snap_search.proofs.Finding.{births_on, birth_notes_on, all_from_on}
 use Rattle.snap_search.proofs.Working.{works_on, worked_by, grows_same, no_notes, epoch_works, epoch_now, stays_reached}
-use Rattle.snap_stamp.specs.declared.side.Side.TheVariants.{Right}
-use Rattle.snap_steps.specs.Counting.{times, Among}
-use Rattle.snap_steps.specs.Facts.{IsKnown}
-use Rattle.snap_steps.specs.Seen.{Known, Becomes}
-use Rattle.snap_steps.specs.Steps.Header.{epoch_noted}
-use Rattle.snap_steps.specs.Steps.Way.{begun_again}
-use Rattle.snap_steps.specs.declared.view.Stage.TheVariants.{Writing}
-use Rattle.snap_steps.specs.declared.view.WordNote.{WordNote}
-use Rattle.snap_steps.specs.declared.view.WordNote.TheVariants.{Epoch}
 
 -- the load by which a way begins with no more seen
 again_works : (old new : Known) (key : ℕ) → Becomes old new (begun_again old.view key) → Works old new []
 again_works old new key e = record {
   is = worked_by old new (begun_again old.view key) e refl;
-  noted = no_notes old.view new.view (ap (λ (k : Known). k.view.notes) e) (ap (λ (k : Known). k.view.handed) e) (ap (λ (k : Known). k.view.epochs) e) (λ h. ap (λ (k : Known). k.view.worn) e ∙ h);
+  noted = no_notes old.view new.view (ap (λ (k : Known). k.view.noted.notes) e) (ap (λ (k : Known). k.view.noted.handed) e) (ap (λ (k : Known). k.view.noted.epochs) e) (λ h. ap (λ (k : Known). k.view.noted.worn) e ∙ h);
   sees = inl (ap (λ (k : Known). k.view.seen) e);
-  kept = λ n. omega (arith, ap (λ (k : Known). times n k.view.reached) e);
-  lasting = λ n g y h. subst (λ (k : Known). IsKnown k.view.lasting n g y) (sym e) h;
-  present = λ y h. subst (λ (k : Known). Among y k.view.present) (sym e) h;
-  refused = grows_same old.view.refused new.view.refused (ap (λ (k : Known). k.view.refused) e);
+  kept = λ n. omega (arith, ap (λ (k : Known). times n k.view.trail.reached) e);
+  lasting = λ n g y h. subst (λ (k : Known). IsKnown k.view.words.lasting n g y) (sym e) h;
+  present = λ y h. subst (λ (k : Known). Among y k.view.words.present) (sym e) h;
+  refused = grows_same old.view.words.refused new.view.words.refused (ap (λ (k : Known). k.view.words.refused) e);
 }
 
 pub begins : (rows : ℕ) (old a new : Known) (key e : ℕ) (up spot : Spot) (made counted : Bool) → old.view.stage ≡ Writing made counted → Becomes old a (epoch_noted old.view e) → Becomes a new (begun_again a.view key) → spot.row ≡ 0 → spot.stamp ≡ 0 → spot.side ≡ Right → up.row ≡ 0 → up.side ≡ Right → Follows rows old new key e up spot
 begins rows old a new key e up spot made counted writing load set row stamp side up_row up_side =
     let second = again_works a new key set in
-    let now : Among e a.view.present = subst (λ (k : Known). Among e k.view.present) (sym load) (epoch_now old.view.stage made counted e old.view.present writing) in record {
+    let now : Among e a.view.words.present = subst (λ (k : Known). Among e k.view.words.present) (sym load) (epoch_now old.view.stage made counted e old.view.words.present writing) in record {
       births = [];
       works = works_on old a new (Epoch e ∷ []) [] (epoch_works old a e load) second;
       seen = ap (λ (k : Known). k.view.seen) set ∙ ap (λ (k : Known). k.view.seen) load;
@@ -46,7 +33,7 @@ begins rows old a new key e up spot made counted writing load set row stamp side
       reached = inl row;
       present = inl row;
       faces = λ z. side;
-      at = ap (λ (k : Known). k.view.reads) set ∙ (λ i. On key (Standing (sym row i) (sym stamp i) (sym side i)));
+      at = ap (λ (k : Known). k.view.way.reads) set ∙ (λ i. On key (Standing (sym row i) (sym stamp i) (sym side i)));
       upper = inl up_row;
       on_right = λ z. up_side;
     }
@@ -86,31 +73,27 @@ finds_end rows old mid new key e up spot p end s w is = record {
   where
     at_end : (p : Place) → IsAt p (end_at p up spot)
     at_end (Here row) = (refl, refl, refl)
-    at_end (Below row stamp side) = (refl, refl, refl, refl)
-    at_end (Shared row stamp side) = (refl, refl, refl, refl)
+    at_end (Below at) = (refl, refl, refl, refl)
+    at_end (Shared at) = (refl, refl, refl, refl)
+
+    below : (q : Spot) → q.row ≤ rows → IsReached new.view q.row → WentFrom new.view key q → EndsOn rows new.view key (end_below q up)
+    below q low reached from = record {
+      low = (low, s.low.1);
+      reached = reached;
+      above = stays_reached mid.view new.view up.row w.works.kept s.upper;
+      on_right = s.on_right;
+      faces = from.1;
+      place = from.0;
+    }
 
     go : (p : Place) → EndsAt rows new.view key e p → EndsFrom new.view key spot p → EndsOn rows new.view key (end_at p up spot)
     go (Here row) at from = record {
-      low = (at.1, s.low.0);
-      reached = inr at.2;
+      low = (at.low, s.low.0);
+      reached = inr at.reached;
       above = stays_reached mid.view new.view spot.row w.works.kept s.reached;
       on_right = s.faces;
-      faces = λ z. absurd (at.0 z);
+      faces = λ z. absurd (at.some_row z);
       place = from;
     }
-    go (Below row stamp side) at from = record {
-      low = (at.0, s.low.1);
-      reached = at.1;
-      above = stays_reached mid.view new.view up.row w.works.kept s.upper;
-      on_right = s.on_right;
-      faces = from.1;
-      place = from.0;
-    }
-    go (Shared row stamp side) at from = record {
-      low = (at.0, s.low.1);
-      reached = at.1;
-      above = stays_reached mid.view new.view up.row w.works.kept s.upper;
-      on_right = s.on_right;
-      faces = from.1;
-      place = from.0;
-    }
+    go (Below q) at from = below q at.low at.reached from
+    go (Shared q) at from = below q at.low at.reached from

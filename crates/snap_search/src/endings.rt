@@ -1,10 +1,11 @@
-//! The search for the row at which a repair begins.
+//! The search for the row at which a repair begins. It keeps the last rows of its way, for the turns after the first.
 ghost use Rattle.std.specs.Prelude.{◌≡◌, Bool};
 ghost use Rattle.snap_search.specs.Endings.{FindsEnd, end_at};
-ghost use Rattle.snap_steps.specs.Seen.{IsOf};
-ghost use Rattle.snap_steps.specs.declared.view.Stage.TheVariants.{Writing};
+ghost use Rattle.snap_search.specs.Kept.{IsWay, with_above};
+ghost use Rattle.snap_prelude.specs.{IsOf, Writing};
 
 use crate::down::{Spot, top};
+use crate::kept::Way;
 use crate::places::{Place, look_for_place};
 use snap_stamp::{Key, RowNo, Side};
 use snap_steps::{Pass, Rows, load_epoch, set_out_again};
@@ -12,7 +13,7 @@ use std::sync::Wait;
 
 /// The last row of this epoch on the way of a key, and the row above it. The stamp is that of the row from which the way
 /// last went on, and the side the one on which it did: this is the row, or where the row has the key the row above. At
-/// row 0 there is no row above.
+/// row 0 there is no row above. Of a row that was kept on a way before, `here` says that it may have the key.
 #[derive(Clone, Copy)]
 pub struct Ending {
     pub above: RowNo,
@@ -26,26 +27,50 @@ pub struct Ending {
 
 /// Finds where the way of a key ends in the rows of this epoch, and the row above it, for a pass in a write. The pass
 /// has seen no more of the history then: what it has seen may end with the entry of its write. It loads `epoch` first,
-/// notes births of rows on its way, and waits for nothing but its own tries.
-pub fn find_to_repair<R: Wait>(rows: &Rows, rt: &R, pass: &mut Pass, key: Key) -> Ending
+/// notes births of rows on its way, and waits for nothing but its own tries. In place of what `way` has it keeps there
+/// the row above, and those above that one.
+pub fn find_to_repair<R: Wait>(
+    rows: &Rows,
+    rt: &R,
+    pass: &mut Pass,
+    key: Key,
+    way: &mut Way,
+) -> Ending
     requires table { IsOf pass.old rows.now }
-    requires writing { (made : Bool) × (counted : Bool) × (pass.old.view.stage ≡ Writing made counted) }
-    ensures { FindsEnd rows.now.rows pass.old pass.new key result }
+    requires writing { (made : Bool) × (counted : Bool)
+        × (pass.old.view.stage ≡ Writing made counted) }
+    ensures finds { FindsEnd rows.now.rows pass.old pass.new key result }
+    ensures way { IsWay rows.now.rows pass.new.view way.new }
 {
     let epoch = load_epoch(rows, pass);
     set_out_again(rows, pass, key);
+    way.clear();
     let mut above = top();
     let mut spot = top();
     for _ in rt.forever() {
         match look_for_place(rows, pass, key, epoch, &spot) {
-            Ok(place) => return end_from(&place, &above, &spot),
+            Ok(place) => {
+                keep_above(way, &place, &spot);
+                return end_from(&place, &above, &spot);
+            }
             Err(next) => {
+                way.meet(&spot);
                 above = spot;
                 spot = next;
             }
         }
     }
     unreachable!()
+}
+
+// Keeps the row above the one with the key. Any other end of a way is the row from which it would go on, and the row
+// above that one is kept already.
+fn keep_above(way: &mut Way, place: &Place, spot: &Spot)
+    ensures { way.new.steps.items ≡ with_above place.now way.old.steps.items spot.now }
+{
+    if let Place::Here { row: _ } = *place {
+        way.meet(spot);
+    }
 }
 
 // The place with the row above its row: where the row has the key, that at which the last step down began.
@@ -61,12 +86,12 @@ fn end_from(place: &Place, above: &Spot, spot: &Spot) -> Ending
             side: spot.side,
             here: true,
         },
-        Place::Below { row, stamp, side } | Place::Shared { row, stamp, side } => Ending {
+        Place::Below { at } | Place::Shared { at } => Ending {
             above: above.row,
             above_side: above.side,
-            row,
-            stamp: stamp.word(),
-            side,
+            row: at.row,
+            stamp: at.stamp.word(),
+            side: at.side,
             here: false,
         },
     }

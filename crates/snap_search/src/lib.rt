@@ -4,12 +4,15 @@
 
 mod down;
 mod endings;
+mod kept;
 mod places;
 mod reading;
 mod trying;
 
+pub use down::Spot;
 pub use endings::{Ending, find_to_repair};
-pub use places::{Place, find_for_write};
+pub use kept::{Step, Way};
+pub use places::{Found, Place, find_for_write};
 pub use reading::get;
 pub use snap_steps::Busy;
 pub use trying::try_get;

@@ -1,17 +1,13 @@
-//! The search for the place of a key, for a write.
+//! The search for the place of a key, for a write. It keeps the last rows of its way, for the repair behind the write.
 ghost use Rattle.std.specs.Prelude.{◌≡◌, ◌≤◌, Bool, MatchResult};
-ghost use Rattle.snap_rule.specs.declared.reader.Reading.TheVariants.{On};
-ghost use Rattle.snap_rule.specs.declared.reader.Point.TheVariants.{Standing};
-ghost use Rattle.snap_search.specs.Places.{Finds, Comes, Goes};
+ghost use Rattle.snap_prelude.specs.{Among, IsOf, On, Right, Standing, Writing};
+ghost use Rattle.snap_search.specs.Kept.{IsWay, with_row};
+ghost use Rattle.snap_search.specs.Places.{Finds, Comes, Goes, row_at};
 ghost use Rattle.snap_search.specs.Work.{IsReached, IsPresent};
-ghost use Rattle.snap_search.specs.declared.places.Place.TheVariants.{Below, Shared};
-ghost use Rattle.snap_stamp.specs.declared.side.Side.TheVariants.{Right};
-ghost use Rattle.snap_steps.specs.Counting.{Among};
-ghost use Rattle.snap_steps.specs.Seen.{IsOf};
-ghost use Rattle.snap_steps.specs.declared.view.Stage.TheVariants.{Writing};
 
 use crate::down::{Spot, child_of, confirm_child, pass_by, top};
-use snap_stamp::{Key, RowNo, Side, Stamp};
+use crate::kept::{Step, Way};
+use snap_stamp::{Key, RowNo, Side};
 use snap_steps::{Pass, Rows, load_epoch, note_birth, set_out};
 use std::sync::Wait;
 
@@ -19,40 +15,75 @@ use std::sync::Wait;
 #[derive(Clone, Copy)]
 pub enum Place {
     /// The row has the key, and is of this epoch.
-    Here {
-        row: RowNo,
-    },
+    Here { row: RowNo },
     /// The row is of this epoch, and its link on the side was 0.
-    Below {
-        row: RowNo,
-        stamp: Stamp,
-        side: Side,
-    },
+    Below { at: Spot },
     /// The row is of this epoch, and its child on the side is of an earlier one.
-    Shared {
-        row: RowNo,
-        stamp: Stamp,
-        side: Side,
-    },
+    Shared { at: Spot },
+}
+
+impl Place {
+    /// The row, which is to be locked for a write there.
+    pub fn row(&self) -> RowNo
+        ensures { result ≡ row_at self.now }
+    {
+        match *self {
+            Place::Here { row } => row,
+            Place::Below { at } | Place::Shared { at } => at.row,
+        }
+    }
+}
+
+/// Where a key belongs, and the epoch of the write that looked for it, which stays till the write leaves.
+#[derive(Clone, Copy)]
+pub struct Found {
+    pub place: Place,
+    pub epoch: u64,
 }
 
 /// Finds the place of a key, for a pass in a write. It loads `epoch` and `done` first, notes births of rows on its way,
-/// and waits for nothing but its own tries.
-pub fn find_for_write<R: Wait>(rows: &Rows, rt: &R, pass: &mut Pass, key: Key) -> Place
+/// and waits for nothing but its own tries. In place of what `way` has it keeps there the row at which the place is, and
+/// those above it.
+pub fn find_for_write<R: Wait>(
+    rows: &Rows,
+    rt: &R,
+    pass: &mut Pass,
+    key: Key,
+    way: &mut Way,
+) -> Found
     requires table { IsOf pass.old rows.now }
-    requires writing { (made : Bool) × (counted : Bool) × (pass.old.view.stage ≡ Writing made counted) }
-    ensures { Finds rows.now.rows pass.old pass.new key result }
+    requires writing { (made : Bool) × (counted : Bool)
+        × (pass.old.view.stage ≡ Writing made counted) }
+    ensures finds { Finds rows.now.rows pass.old pass.new key result }
+    ensures way { IsWay rows.now.rows pass.new.view way.new }
 {
     let epoch = load_epoch(rows, pass);
     set_out(rows, pass, key);
+    way.clear();
     let mut spot = top();
     for _ in rt.forever() {
+        way.meet(&spot);
         match look_for_place(rows, pass, key, epoch, &spot) {
-            Ok(place) => return place,
+            Ok(place) => {
+                keep_row(way, &place);
+                return Found { place, epoch };
+            }
             Err(next) => spot = next,
         }
     }
     unreachable!()
+}
+
+// Keeps the row with the key. At any other place the row is that at which the search stood, which is kept already.
+fn keep_row(way: &mut Way, place: &Place)
+    ensures { way.new.steps.items ≡ with_row place.now way.old.steps.items }
+{
+    if let Place::Here { row } = *place {
+        way.keep(Step {
+            row,
+            side: Side::Right,
+        });
+    }
 }
 
 /// One step down: the place, or where the search goes on.
@@ -68,13 +99,15 @@ pub(crate) fn look_for_place(
     requires reached { IsReached pass.old.view spot.now.row }
     requires present { IsPresent pass.old.view spot.now.row epoch }
     requires faces { spot.now.row ≡ 0 → spot.now.side ≡ Right }
-    requires epoch { Among epoch pass.old.view.present }
-    requires way { pass.old.view.reads ≡ On key (Standing spot.now.row spot.now.stamp spot.now.side) }
-    ensures { MatchResult result (λ p. Comes rows.now.rows pass.old pass.new key epoch spot.now p) (λ s. Goes rows.now.rows pass.old pass.new key epoch s.row s.stamp s.side) }
+    requires epoch { Among epoch pass.old.view.words.present }
+    requires way { pass.old.view.way.reads
+        ≡ On key (Standing spot.now.row spot.now.stamp spot.now.side) }
+    ensures { MatchResult result (λ p. Comes rows.now.rows pass.old pass.new key epoch spot.now p)
+        (λ s. Goes rows.now.rows pass.old pass.new key epoch s.row s.stamp s.side) }
 {
     let child = child_of(rows, pass, key, spot);
     if child.is_none() {
-        return Ok(below(spot));
+        return Ok(Place::Below { at: *spot });
     }
     let Some(stamp) = confirm_child(rows, pass, key, spot, child) else {
         return Err(top());
@@ -82,30 +115,10 @@ pub(crate) fn look_for_place(
     let next = pass_by(rows, pass, key, child, stamp);
     let birth = note_birth(rows, pass, key, child);
     if birth < epoch {
-        return Ok(above_shared(spot));
+        return Ok(Place::Shared { at: *spot });
     }
     match next {
         Some(next) => Err(next),
         None => Ok(Place::Here { row: child }),
-    }
-}
-
-fn below(spot: &Spot) -> Place
-    ensures { result ≡ Below spot.now.row spot.now.stamp spot.now.side }
-{
-    Place::Below {
-        row: spot.row,
-        stamp: spot.stamp,
-        side: spot.side,
-    }
-}
-
-fn above_shared(spot: &Spot) -> Place
-    ensures { result ≡ Shared spot.now.row spot.now.stamp spot.now.side }
-{
-    Place::Shared {
-        row: spot.row,
-        stamp: spot.stamp,
-        side: spot.side,
     }
 }

@@ -1,25 +1,12 @@
 -- The entry of a write, what comes before it, and the release of the lock after it.
 use Rattle.std.proofs.Common.{◌≡◌, inl, inr, ℕ, ◌≤◌, List, [], ◌∷◌, ◌++◌, append-nil, Option, None, refl, sym, ap, ◌∙◌, subst, arith}
 use Rattle.snap_locks.specs.Held.{HasLocked, tried}
-use Rattle.snap_model.specs.History.{Begins, IsLegal, calls_of}
-use Rattle.snap_model.specs.declared.call.Call.{Call}
-use Rattle.snap_model.specs.declared.call.Call.TheVariants.{Put}
-use Rattle.snap_model.specs.declared.call.Entry.{Entry}
-use Rattle.snap_search.specs.Walk.{SeesMore}
+use Rattle.snap_prelude.specs.{all_noted, Becomes, Begins, Call, calls_of, drew, Enters}
+use Rattle.snap_prelude.specs.{Entry, entry, Fact, Field, HasDrawn, hung, IsLegal, Known}
+use Rattle.snap_prelude.specs.{locked, made_entry, no_more_reached, notes_of, Put, removed}
+use Rattle.snap_prelude.specs.{same_rows, SeesMore, stored, times, unlocked, View, WordNote}
 use Rattle.snap_search.proofs.Walking.{begins_on}
 use Rattle.snap_search.proofs.Working.{notes_on, no_notes}
-use Rattle.snap_stamp.specs.declared.layout.Field.{Field}
-use Rattle.snap_steps.specs.Counting.{times, removed}
-use Rattle.snap_steps.specs.Drawing.{HasDrawn, notes_of}
-use Rattle.snap_steps.specs.Histories.{Enters}
-use Rattle.snap_steps.specs.Seen.{Known, Becomes}
-use Rattle.snap_steps.specs.Steps.Draws.{drew}
-use Rattle.snap_steps.specs.Steps.Header.{all_noted}
-use Rattle.snap_steps.specs.Steps.Locks.{locked, unlocked}
-use Rattle.snap_steps.specs.Steps.Writes.{entry, stored, made_entry, hung}
-use Rattle.snap_steps.specs.declared.view.Fact.{Fact}
-use Rattle.snap_steps.specs.declared.view.View.{View}
-use Rattle.snap_steps.specs.declared.view.WordNote.{WordNote}
 use Rattle.snap_update.specs.Answers.{GoesOn, LinksWhatItDraws, Made, Writes}
 use Rattle.snap_update.specs.Held.{Fills, stored_in}
 use Rattle.snap_update.proofs.Going.{written_on, removed_added, alone_removed, goes_links, links_on}
@@ -40,7 +27,7 @@ enters_from v w h call reply who mine sees e = record {
     begins (inl q) b = subst (λ (l : List Entry). Begins l h) q b
     begins (inr x) b = begins_on v.seen w.seen h x.goes_on b
 
-pub no_links : (v w : View) → w.drawn ≡ v.drawn → ((r : ℕ) → times r w.own ≤ times r v.own) → LinksWhatItDraws v w
+pub no_links : (v w : View) → w.drawn ≡ v.drawn → ((r : ℕ) → times r w.fresh.own ≤ times r v.fresh.own) → LinksWhatItDraws v w
 no_links v w drawn own = record { rows = []; drawn = drawn ∙ sym (append-nil v.drawn); linked = λ r some_r. absurd (omega arith); no_more = own }
 
 -- a write that went on before it made its entry
@@ -74,7 +61,7 @@ freed old b refused row call reply w free = let m = w.made in record {
     mine = m.mine;
     stage = m.stage;
     more = m.more;
-    noted = record { notes = m.noted.notes; handed = m.noted.handed; epochs = m.noted.epochs; worn = m.noted.worn };
+    noted = m.noted;
     links = record { rows = m.links.rows; drawn = m.links.drawn; linked = m.links.linked; no_more = m.links.no_more };
     reached = m.reached;
   };
@@ -125,7 +112,7 @@ confirms_here old new call reply log enters e =
 
 -- the pass once it drew the leaf, made it one, and linked it
 abbrev filled : View → List WordNote → ℕ → View → View
-filled v l leaf w = record (drew (all_noted v l) leaf) { steps = w.steps; wrote = w.wrote }
+filled v l leaf w = let u : View = drew (all_noted v l) leaf in record u { trail = no_more_reached u.trail w.trail; fresh = same_rows u.fresh w.fresh }
 
 hangs_at : (old : Known) (l : List WordNote) (leaf : ℕ) (w : View) (call : Call) (parent : ℕ) (field : Field) (log : List Entry) → Enters (filled old.view l leaf w) log (entry old.view.who call None) → Writes old (known old (hung (filled old.view l leaf w) log (entry old.view.who call None) parent field leaf)) call None
 hangs_at old l leaf w call parent field log enters = record {
@@ -141,8 +128,8 @@ hangs_at old l leaf w call parent field log enters = record {
     links = record {
       rows = leaf ∷ [];
       drawn = refl;
-      linked = λ r some_r. (alone_removed leaf r (leaf ∷ old.view.own) some_r, omega (arith, some_r));
-      no_more = λ r. removed_added leaf r old.view.own;
+      linked = λ r some_r. (alone_removed leaf r (leaf ∷ old.view.fresh.own) some_r, omega (arith, some_r));
+      no_more = λ r. removed_added leaf r old.view.fresh.own;
     };
     reached = λ r. omega arith;
   };
@@ -152,6 +139,6 @@ hangs_at old l leaf w call parent field log enters = record {
 pub hangs : (rows : ℕ) (old a b new : Known) (leaf key value parent : ℕ) (field : Field) (log : List Entry) → HasDrawn rows old a leaf → Fills a b leaf key value → Enters b.view log (entry b.view.who (Put key value) None) → Becomes b new (hung b.view log (entry b.view.who (Put key value) None) parent field leaf) → Writes old new (Put key value) None
 hangs rows old a b new leaf key value parent field log d f enters e =
     let l : List WordNote = notes_of d.0 in let call : Call = Put key value in
-    let is : (let k : Known = known old (filled old.view l leaf b.view) in b ≡ k) = f.is ∙ ap (λ (k : Known). stored_in k b.view.steps b.view.wrote) d.3 in
+    let is : (let k : Known = known old (filled old.view l leaf b.view) in b ≡ k) = f.is ∙ ap (λ (k : Known). stored_in k b.view) d.3 in
     let whole : (let k : Known = known old (hung (filled old.view l leaf b.view) log (entry old.view.who call None) parent field leaf) in new ≡ k) = e ∙ ap (λ (k : Known). known k (hung k.view log (entry k.view.who call None) parent field leaf)) is in
     subst (λ (k : Known). Writes old k call None) (sym whole) (hangs_at old l leaf b.view call parent field log (subst (λ (k : Known). Enters k.view log (entry k.view.who call None)) is enters))

@@ -1,25 +1,16 @@
 -- A write that goes on without its entry.
 use Rattle.std.proofs.Common.{◌≡◌, inl, inr, ℕ, ◌<◌, ◌≤◌, List, [], ◌∷◌, ◌++◌, append_assoc, append-nil, refl, sym, ap, ◌∙◌, subst, arith}
-use mathlib.Core.Logic.{dite}
-use native.Mathlib.Decide.{ℕ_discrete}
+use Rattle.snap_prelude.proofs.Common.{dite, one_other, removed_other, removed_same, ℕ_discrete}
 use Rattle.snap_copy.specs.Owning.{IsCopied}
+use Rattle.snap_copy.specs.declared.Wanted.{Wanted}
 use Rattle.snap_locks.specs.Held.{HasLocked, tried}
-use Rattle.snap_rule.specs.State.{In}
-use Rattle.snap_search.specs.Walk.{KeepsReached}
-use Rattle.snap_search.specs.Work.{Works}
+use Rattle.snap_prelude.specs.{AllAre, Among, Becomes, Fact, In, KeepsReached, Known}
+use Rattle.snap_prelude.specs.{locked, removed, times, unlocked, View, WordNote}
+use Rattle.snap_search.specs.Prelude.{Works}
 use Rattle.snap_search.proofs.Walking.{sees_on, times-append}
 use Rattle.snap_search.proofs.Working.{notes_on, no_notes}
-use Rattle.snap_stamp.specs.declared.side.Side.{Side}
-use Rattle.snap_steps.specs.Counting.{times, removed, Among}
-use Rattle.snap_steps.specs.Rule.Epochs.{AllAre}
-use Rattle.snap_steps.specs.Seen.{Known, Becomes}
-use Rattle.snap_steps.specs.Steps.Locks.{locked, unlocked}
-use Rattle.snap_steps.specs.declared.view.Fact.{Fact}
-use Rattle.snap_steps.specs.declared.view.View.{View}
-use Rattle.snap_steps.specs.declared.view.WordNote.{WordNote}
-use Rattle.snap_steps.proofs.Totals.{removed_same, removed_other, one_other}
 use Rattle.snap_update.specs.Answers.{written, GoesOn, LinksWhatItDraws}
-use Rattle.snap_update.specs.Held.{IsReady}
+use Rattle.snap_update.specs.Held.{IsAtWork, IsReady}
 use Rattle.snap_update.proofs.Holding.{removed_alone}
 
 pub written_on : (old mid new : Known) → mid ≡ written old mid.view → new ≡ written mid new.view → new ≡ written old new.view
@@ -49,8 +40,8 @@ in_left n (x ∷ xs) m (inl e) = inl e
 in_left n (x ∷ xs) m (inr h) = inr (in_left n xs m h)
 
 -- rows that were linked stay so
-both_linked : (v w : View) (r s : List ℕ) → ((n : ℕ) → 0 < times n r → (times n v.own ≡ 0) × Among n v.reached) → ((n : ℕ) → 0 < times n s → (times n w.own ≡ 0) × Among n w.reached) → ((n : ℕ) → times n w.own ≤ times n v.own) → KeepsReached v w
-    → (n : ℕ) → 0 < times n (r ++ s) → (times n w.own ≡ 0) × Among n w.reached
+both_linked : (v w : View) (r s : List ℕ) → ((n : ℕ) → 0 < times n r → (times n v.fresh.own ≡ 0) × Among n v.trail.reached) → ((n : ℕ) → 0 < times n s → (times n w.fresh.own ≡ 0) × Among n w.trail.reached) → ((n : ℕ) → times n w.fresh.own ≤ times n v.fresh.own) → KeepsReached v w
+    → (n : ℕ) → 0 < times n (r ++ s) → (times n w.fresh.own ≡ 0) × Among n w.trail.reached
 both_linked v w r s a b less kept n some_n = dite (ℕ_discrete (times n r) 0) (λ z. b n (omega (arith, some_n, times-append n r s))) (λ nz. let h = a n (omega arith) in (omega (arith, h.0, less n), omega (arith, h.1, kept n)))
 
 pub links_on : (u v w : View) → LinksWhatItDraws u v → LinksWhatItDraws v w → KeepsReached v w → LinksWhatItDraws u w
@@ -73,10 +64,10 @@ goes_works old new key l w = record {
   noted = w.noted;
   drawn = ap (λ (k : Known). k.view.drawn) w.is ∙ sym (append-nil old.view.drawn);
   linked = λ r some_r. absurd (omega arith);
-  no_more = λ r. omega (arith, ap (λ (k : Known). times r k.view.own) w.is);
+  no_more = λ r. omega (arith, ap (λ (k : Known). times r k.view.fresh.own) w.is);
   reached = w.kept;
   present = w.present;
-  copies = λ h. subst (AllAre key) (sym (ap (λ (k : Known). k.view.copies) w.is)) h;
+  copies = λ h. subst (AllAre key) (sym (ap (λ (k : Known). k.view.fresh.copies) w.is)) h;
 }
 
 pub goes_nowhere : (old : Known) (key : ℕ) → GoesOn old old key [] []
@@ -125,7 +116,7 @@ freed old b refused key row r l g free = record {
   holds = ap (removed row) (g.holds ∙ ap (λ (h : List ℕ). row ∷ h) free) ∙ removed_alone row ∙ sym free;
   debt = g.debt;
   sees = sees_on old.view (locked (tried old.view refused) row) b.view refl refl (inl refl) g.sees;
-  noted = record { notes = g.noted.notes; handed = g.noted.handed; epochs = g.noted.epochs; worn = g.noted.worn };
+  noted = g.noted;
   drawn = g.drawn;
   linked = g.linked;
   no_more = g.no_more;
@@ -138,8 +129,8 @@ pub goes_locked : (old a b new : Known) (key row : ℕ) (r : List ℕ) (l : List
 goes_locked old a b new key row r l h g e free = subst (λ (k : Known). GoesOn old k key r l) (sym e) (freed old b h.refused key row r l (subst (λ (k : Known). GoesOn k b key r l) h.is g) free)
 
 -- a copy was linked
-pub copied_goes : (old new : Known) (key parent : ℕ) (d : Side) (copy : ℕ) (c : IsCopied old new key parent d copy) → GoesOn old new key (copy ∷ []) c.more
-copied_goes old new key parent d copy c = record {
+pub copied_goes : (old new : Known) (key : ℕ) (at : Wanted) (copy : ℕ) (c : IsCopied old new key at copy) → GoesOn old new key (copy ∷ []) c.more
+copied_goes old new key at copy c = record {
   is = c.is ∙ ap (λ (k : Known). written old k.view) (sym c.is);
   mine = ap (λ (k : Known). k.view.mine) c.is;
   stage = ap (λ (k : Known). k.view.stage) c.is;
@@ -148,8 +139,8 @@ copied_goes old new key parent d copy c = record {
   sees = c.sees;
   noted = c.noted;
   drawn = c.drawn;
-  linked = λ r some_r. (ap (times r) c.own ∙ alone_removed copy r (copy ∷ old.view.own) some_r, alone_among copy r new.view.reached some_r c.reached);
-  no_more = λ r. omega (arith, ap (times r) c.own, removed_added copy r old.view.own);
+  linked = λ r some_r. (ap (times r) c.own ∙ alone_removed copy r (copy ∷ old.view.fresh.own) some_r, alone_among copy r new.view.trail.reached some_r c.reached);
+  no_more = λ r. omega (arith, ap (times r) c.own, removed_added copy r old.view.fresh.own);
   reached = c.kept;
   present = c.present;
   copies = λ h. subst (AllAre key) (sym c.copies) (refl, tt);
@@ -161,3 +152,13 @@ still_ready old mid key r l h g = record { writing = g.stage ∙ h.writing; free
 -- the rows that were drawn on the way
 pub goes_links : (old new : Known) (key : ℕ) (r : List ℕ) (l : List WordNote) → GoesOn old new key r l → LinksWhatItDraws old.view new.view
 goes_links old new key r l g = record { rows = r; drawn = g.drawn; linked = g.linked; no_more = g.no_more }
+
+-- once the row is locked
+pub at_work : (old mid : Known) (key row : ℕ) → IsReady old.view key → HasLocked old mid row → IsAtWork mid.view row key
+at_work old mid key row h l = record {
+  writing = ap (λ (k : Known). k.view.stage) l.is ∙ h.writing;
+  held = ap (λ (k : Known). k.view.holds) l.is ∙ ap (λ (x : List ℕ). row ∷ x) h.free;
+  whole = ap (λ (k : Known). k.view.doing) l.is ∙ h.whole;
+  owes = ap (λ (k : Known). k.view.debt) l.is ∙ h.owes;
+  copies = subst (λ (k : Known). AllAre key k.view.fresh.copies) (sym l.is) h.copies;
+}

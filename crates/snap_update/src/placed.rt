@@ -1,55 +1,52 @@
 //! Whether a held row is the place of a key still.
-ghost use Rattle.std.specs.Prelude.{◌≡◌, ◌≤◌, MatchOption, Bool};
-ghost use Rattle.snap_steps.specs.Seen.{IsOf};
-ghost use Rattle.snap_steps.specs.declared.view.Stage.TheVariants.{Writing};
+ghost use Rattle.std.specs.Prelude.{◌≤◌, MatchBool, MatchOption};
+ghost use Rattle.snap_prelude.specs.{Among, IsOf};
 ghost use Rattle.snap_update.specs.Held.{Holds, Checks, IsStill};
 
+use snap_search::Spot;
 use snap_stamp::{Field, RowNo, Stamp};
-use snap_steps::{Pass, Rows, load_epoch, load_word};
+use snap_steps::{Pass, Rows, load_word};
 
-/// A held row without the mark of the unlinked, which is row 0 or of this epoch: the epoch, and the row's stamp.
+/// A place below a row, and the epoch of the write that found it.
 #[derive(Clone, Copy)]
-pub struct Live {
+pub struct Gap {
+    pub at: Spot,
     pub epoch: u64,
-    pub stamp: Stamp,
 }
 
-/// The epoch and the stamp, where the held row has no mark of the unlinked, and is row 0 or of this epoch.
-pub fn live_row(rows: &Rows, pass: &mut Pass, row: RowNo) -> Option<Live>
+/// The stamp, where the held row has no mark of the unlinked, and is row 0 or of this epoch.
+pub fn live_stamp(rows: &Rows, pass: &mut Pass, row: RowNo, epoch: u64) -> Option<Stamp>
     requires table { IsOf pass.old rows.now }
     requires row { row ≤ rows.now.rows }
     requires held { Holds pass.old.view row }
-    requires writing { (made : Bool) × (counted : Bool) × (pass.old.view.stage ≡ Writing made counted) }
-    ensures { MatchOption result (Checks pass.old pass.new) (λ l. IsStill pass.old pass.new row l.stamp l.epoch) }
+    requires epoch { Among epoch pass.old.view.words.present }
+    ensures { MatchOption result (Checks pass.old pass.new) (λ s. IsStill pass.old pass.new row s) }
 {
-    let epoch = load_epoch(rows, pass);
     let birth = load_word(rows, pass, row, Field::Birth);
     let stamp = Stamp::of(load_word(rows, pass, row, Field::Stamp));
     if stamp.is_unlinked() {
         return None;
     }
     if row.is_none() {
-        return Some(Live { epoch, stamp });
+        return Some(stamp);
     }
     if birth != epoch {
         return None;
     }
-    Some(Live { epoch, stamp })
+    Some(stamp)
 }
 
-/// The epoch, where the held row is such a row and has the stamp still.
-pub fn epoch_of_place(rows: &Rows, pass: &mut Pass, row: RowNo, stamp: Stamp) -> Option<u64>
+/// Whether the held row is such a row and has the place's stamp still.
+pub fn is_place(rows: &Rows, pass: &mut Pass, gap: &Gap) -> bool
     requires table { IsOf pass.old rows.now }
-    requires row { row ≤ rows.now.rows }
-    requires held { Holds pass.old.view row }
-    requires writing { (made : Bool) × (counted : Bool) × (pass.old.view.stage ≡ Writing made counted) }
-    ensures { MatchOption result (Checks pass.old pass.new) (λ e. IsStill pass.old pass.new row stamp e) }
+    requires row { gap.now.at.row ≤ rows.now.rows }
+    requires held { Holds pass.old.view gap.now.at.row }
+    requires epoch { Among gap.now.epoch pass.old.view.words.present }
+    ensures { MatchBool result (IsStill pass.old pass.new gap.now.at.row gap.now.at.stamp)
+        (Checks pass.old pass.new) }
 {
-    let Some(live) = live_row(rows, pass, row) else {
-        return None;
+    let Some(stamp) = live_stamp(rows, pass, gap.at.row, gap.epoch) else {
+        return false;
     };
-    if live.stamp.word() != stamp.word() {
-        return None;
-    }
-    Some(live.epoch)
+    stamp.word() == gap.at.stamp.word()
 }

@@ -1,13 +1,8 @@
-use Rattle.std.proofs.Common.{rules, ◌≡◌, ◌∙◌, ◌+◌, ap, subst, sym, [], ◌∷◌, ℕ, None, Option, add-one}
-use Rattle.snap_model.specs.declared.call.Call.{Call}
-use Rattle.snap_model.specs.declared.call.Call.TheVariants.{Put, Remove}
-use Rattle.snap_rule.specs.Tree.{value_of}
-use Rattle.snap_search.specs.Work.{Works}
+use Rattle.std.proofs.Common.{rules, ◌≡◌, ◌∙◌, ◌+◌, ap, subst, sym, [], ℕ, None, Option, add-one}
+use Rattle.snap_prelude.specs.{Becomes, Call, call_of, Key, Known}
+use Rattle.snap_prelude.specs.{Put, read, Remove, Value, value_of}
+use Rattle.snap_search.specs.Prelude.{Works}
 use Rattle.snap_search.proofs.Working.{works_on, word_works}
-use Rattle.snap_stamp.specs.declared.layout.Field.TheVariants.{Key, Value}
-use Rattle.snap_steps.specs.Seen.{Known}
-use Rattle.snap_steps.specs.Steps.Writes.{call_of}
-use Rattle.snap_steps.specs.declared.view.WordNote.TheVariants.{Epoch}
 use Rattle.snap_update.specs.Answers.{Writes}
 use Rattle.snap_update.specs.Held.{IsStill}
 use Rattle.snap_update.proofs.Entering.{stores_here, confirms_here, writes_after}
@@ -15,40 +10,43 @@ use Rattle.snap_update.proofs.Going.{goes_works}
 use Rattle.snap_update.proofs.here.store_here.Goals as goal
 
 -- the loads before the entry
-loaded : (old a b d : Known) (row stamp e key word : ℕ) → IsStill old a row stamp e → Rattle.snap_steps.specs.Seen.Becomes a b (Rattle.snap_steps.specs.Steps.Fields.read a.view row Key key) → Rattle.snap_steps.specs.Seen.Becomes b d (Rattle.snap_steps.specs.Steps.Fields.read b.view row Value word) → Works old d (Epoch e ∷ [])
-loaded old a b d row stamp e key word s k v = works_on old a d (Epoch e ∷ []) [] s.works (works_on a b d [] [] (word_works a b row Key key k) (word_works b d row Value word v))
+loaded : (old a b : Known) (row stamp key : ℕ) → IsStill old a row stamp → Becomes a b (read a.view row Key key) → Works old b []
+loaded old a b row stamp key s k = works_on old a b [] [] s.works (word_works a b row Key key k)
 
-pub returns-then-word-eq0 : goal.returns-then-word-eq0
-returns-then-word-eq0 c =
-    let old : Known = c.args.pass.now in let d : Known = c.load_word-word.new.pass in let new : Known = c.confirm_absent.new.pass in
-    let epoch : ℕ = c.in-Some.field-0.epoch in
-    let works = loaded old c.live_row.new.pass c.load_key-key.new.pass d c.args.row c.in-Some.field-0.stamp epoch c.load_key-key.result c.load_word-word.result c.in-Some.ensures c.load_key-key.ensures.pass c.load_word-word.ensures.pass in
-    let same : c.in-Remove.wanted ≡ c.load_key-key.result = search rules in
-    let is : c.args.call.now ≡ Remove c.load_key-key.result = c.in-Remove.is ∙ ap (λ (k : ℕ). Remove k) same in
+with_value : (old b d : Known) (row word : ℕ) → Works old b [] → Becomes b d (read b.view row Value word) → Works old d []
+with_value old b d row word w v = works_on old b d [] [] w (word_works b d row Value word v)
+
+pub returns-then-load_word-eq0 : goal.returns-then-load_word-eq0
+returns-then-load_word-eq0 c =
+    let old : Known = c.args.pass.now in let b : Known = c.load_key-key.new.pass in let d : Known = c.load_word.new.pass in let new : Known = c.confirm_absent.new.pass in
+    let key : ℕ = c.load_key-key.result in
+    let works = with_value old b d c.args.row c.load_word.result (loaded old c.live_stamp.new.pass b c.args.row c.in-Some.field-0 key c.in-Some.ensures c.load_key-key.ensures.pass) c.load_word.ensures.pass in
+    let same : c.in-Remove.wanted ≡ key = search rules in
+    let is : c.args.call.now ≡ Remove key = c.in-Remove.is ∙ ap (λ (k : ℕ). Remove k) same in
     let e = c.confirm_absent.ensures in
-    subst (λ (x : Call). Writes old new x None) (sym is) (writes_after old d new c.load_key-key.result [] (Epoch epoch ∷ []) (Remove c.load_key-key.result) None (goes_works old d c.load_key-key.result (Epoch epoch ∷ []) works) (confirms_here d new (Remove c.load_key-key.result) None e.0 e.1 e.2))
+    subst (λ (x : Call). Writes old new x None) (sym is) (writes_after old d new key [] [] (Remove key) None (goes_works old d key [] works) (confirms_here d new (Remove key) None e.0 e.1 e.2))
 
 pub returns-else-wanted-key : goal.returns-else-wanted-key
 returns-else-wanted-key c =
-    let old : Known = c.args.pass.now in let d : Known = c.load_word-word.new.pass in let new : Known = c.store_value.new.pass in
-    let epoch : ℕ = c.in-Some.field-0.epoch in
-    let works = loaded old c.live_row.new.pass c.load_key-key.new.pass d c.args.row c.in-Some.field-0.stamp epoch c.load_key-key.result c.load_word-word.result c.in-Some.ensures c.load_key-key.ensures.pass c.load_word-word.ensures.pass in
-    let same : c.in-Put.wanted ≡ c.load_key-key.result = search rules in
-    let is : c.args.call.now ≡ Put c.load_key-key.result c.in-Put.value = c.in-Put.is ∙ ap (λ (k : ℕ). Put k c.in-Put.value) same in
+    let old : Known = c.args.pass.now in let b : Known = c.load_key-key.new.pass in let new : Known = c.store_value.new.pass in
+    let key : ℕ = c.load_key-key.result in let put : Call = Put key c.in-Put.value in let was : Option ℕ = value_of c.store_value.result in
+    let works = loaded old c.live_stamp.new.pass b c.args.row c.in-Some.field-0 key c.in-Some.ensures c.load_key-key.ensures.pass in
+    let same : c.in-Put.wanted ≡ key = search rules in
+    let is : c.args.call.now ≡ put = c.in-Put.is ∙ ap (λ (k : ℕ). Put k c.in-Put.value) same in
     let e = c.store_value.ensures.entry in
-    let made : Writes d new (call_of c.load_key-key.result (c.in-Put.value + 1)) (value_of c.store_value.result) = stores_here d new (call_of c.load_key-key.result (c.in-Put.value + 1)) (value_of c.store_value.result) e.0 c.args.row (c.in-Put.value + 1) e.1 e.2 in
-    let as_put : Writes d new (Put c.load_key-key.result c.in-Put.value) (value_of c.store_value.result) = subst (λ (n : ℕ). Writes d new (call_of c.load_key-key.result n) (value_of c.store_value.result)) (add-one c.in-Put.value) made in
+    let made : Writes b new (call_of key (c.in-Put.value + 1)) was = stores_here b new (call_of key (c.in-Put.value + 1)) was e.0 c.args.row (c.in-Put.value + 1) e.1 e.2 in
+    let as_put : Writes b new put was = subst (λ (n : ℕ). Writes b new (call_of key n) was) (add-one c.in-Put.value) made in
     subst (λ (r : Option ℕ). Writes old new c.args.call.now r) (sym c.value_of.ensures)
-    (subst (λ (x : Call). Writes old new x (value_of c.store_value.result)) (sym is) (writes_after old d new c.load_key-key.result [] (Epoch epoch ∷ []) (Put c.load_key-key.result c.in-Put.value) (value_of c.store_value.result) (goes_works old d c.load_key-key.result (Epoch epoch ∷ []) works) as_put))
+    (subst (λ (x : Call). Writes old new x was) (sym is) (writes_after old b new key [] [] put was (goes_works old b key [] works) as_put))
 
-pub returns-else-word-eq0 : goal.returns-else-word-eq0
-returns-else-word-eq0 c =
-    let old : Known = c.args.pass.now in let d : Known = c.load_word-word.new.pass in let new : Known = c.store_value-in-Remove.new.pass in
-    let epoch : ℕ = c.in-Some.field-0.epoch in
-    let works = loaded old c.live_row.new.pass c.load_key-key.new.pass d c.args.row c.in-Some.field-0.stamp epoch c.load_key-key.result c.load_word-word.result c.in-Some.ensures c.load_key-key.ensures.pass c.load_word-word.ensures.pass in
-    let same : c.in-Remove.wanted ≡ c.load_key-key.result = search rules in
-    let is : c.args.call.now ≡ Remove c.load_key-key.result = c.in-Remove.is ∙ ap (λ (k : ℕ). Remove k) same in
+pub returns-else-load_word-eq0 : goal.returns-else-load_word-eq0
+returns-else-load_word-eq0 c =
+    let old : Known = c.args.pass.now in let b : Known = c.load_key-key.new.pass in let d : Known = c.load_word.new.pass in let new : Known = c.store_value-in-Remove.new.pass in
+    let key : ℕ = c.load_key-key.result in let was : Option ℕ = value_of c.store_value-in-Remove.result in
+    let works = with_value old b d c.args.row c.load_word.result (loaded old c.live_stamp.new.pass b c.args.row c.in-Some.field-0 key c.in-Some.ensures c.load_key-key.ensures.pass) c.load_word.ensures.pass in
+    let same : c.in-Remove.wanted ≡ key = search rules in
+    let is : c.args.call.now ≡ Remove key = c.in-Remove.is ∙ ap (λ (k : ℕ). Remove k) same in
     let e = c.store_value-in-Remove.ensures.entry in
-    let made : Writes d new (Remove c.load_key-key.result) (value_of c.store_value-in-Remove.result) = stores_here d new (Remove c.load_key-key.result) (value_of c.store_value-in-Remove.result) e.0 c.args.row 0 e.1 e.2 in
+    let made : Writes d new (Remove key) was = stores_here d new (Remove key) was e.0 c.args.row 0 e.1 e.2 in
     subst (λ (r : Option ℕ). Writes old new c.args.call.now r) (sym c.value_of-in-Remove.ensures)
-    (subst (λ (x : Call). Writes old new x (value_of c.store_value-in-Remove.result)) (sym is) (writes_after old d new c.load_key-key.result [] (Epoch epoch ∷ []) (Remove c.load_key-key.result) (value_of c.store_value-in-Remove.result) (goes_works old d c.load_key-key.result (Epoch epoch ∷ []) works) made))
+    (subst (λ (x : Call). Writes old new x was) (sym is) (writes_after old d new key [] [] (Remove key) was (goes_works old d key [] works) made))

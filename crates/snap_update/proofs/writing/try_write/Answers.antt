@@ -1,19 +1,28 @@
-use Rattle.std.proofs.Common.{ℕ, subst}
-use Rattle.snap_search.specs.Places.{Finds}
-use Rattle.snap_search.specs.declared.places.Place.TheVariants.{Here, Below, Shared}
-use Rattle.snap_update.specs.Attempts.{Brings}
-use Rattle.snap_update.proofs.Trying.{tries_after, tries_shared}
+use Rattle.std.proofs.Common.{ℕ, [], subst}
+use Rattle.snap_prelude.specs.{call_key}
+use Rattle.snap_search.specs.Prelude.{Finds}
+use Rattle.snap_search.proofs.Keeping.{way_stays}
+use Rattle.snap_update.proofs.Going.{goes_works, still_ready}
+use Rattle.snap_update.proofs.Trying.{attempt_reached, found, tries_at}
 use Rattle.snap_update.proofs.writing.try_write.Goals as goal
 
-pub returns-in-Here : goal.returns-in-Here
-returns-in-Here g c = let p = Here c.in-Here.row in
-    tries_after c.args.rows.now.rows c.args.pass.now c.find_for_write.new.pass c.write_here.new.pass p c.args.call.now c.write_here.result (subst (λ (k : ℕ). Finds c.args.rows.now.rows c.args.pass.now c.find_for_write.new.pass k p) c.key_of-key.ensures c.in-Here.ensures) c.write_here.ensures
+pub write_at-requires-clause-ready : goal.write_at-requires-clause-ready
+write_at-requires-clause-ready g c =
+    let key : ℕ = call_key c.args.call.now in let f = c.find_for_write-found.result in
+    let w = subst (λ (k : ℕ). Finds c.args.rows.now.rows c.args.pass.now c.find_for_write-found.new.pass k f) c.key_of.ensures c.find_for_write-found.ensures.finds in
+    let l = found key f.epoch w.counted w.births in still_ready c.args.pass.now c.find_for_write-found.new.pass key [] l c.requires.ready (goes_works c.args.pass.now c.find_for_write-found.new.pass key l w.works)
 
-pub returns-in-Below : goal.returns-in-Below
-returns-in-Below g c = let p = Below c.in-Below.row c.in-Below.stamp c.in-Below.side in
-    tries_after c.args.rows.now.rows c.args.pass.now c.find_for_write.new.pass c.write_below.new.pass p c.args.call.now c.write_below.result (subst (λ (k : ℕ). Finds c.args.rows.now.rows c.args.pass.now c.find_for_write.new.pass k p) c.key_of-key.ensures c.in-Below.ensures) c.write_below.ensures
+pub write_at-requires-clause-epoch : goal.write_at-requires-clause-epoch
+write_at-requires-clause-epoch g c = c.find_for_write-found.ensures.finds.now
 
-pub returns-in-Shared : goal.returns-in-Shared
-returns-in-Shared g c = let p = Shared c.in-Shared.row c.in-Shared.stamp c.in-Shared.side in let is = c.key_of-key.ensures in
-    tries_shared c.args.rows.now.rows c.args.pass.now c.find_for_write.new.pass c.own_below.new.pass c.in-Shared.row c.in-Shared.stamp c.in-Shared.side c.args.call.now c.own_below.result (subst (λ (k : ℕ). Finds c.args.rows.now.rows c.args.pass.now c.find_for_write.new.pass k p) is c.in-Shared.ensures)
-    (subst (λ (k : ℕ). Brings c.args.rows.now.rows c.find_for_write.new.pass c.own_below.new.pass k c.own_below.result) is c.own_below.ensures)
+pub write_at-requires-clause-place : goal.write_at-requires-clause-place
+write_at-requires-clause-place g c =
+    (subst (λ (k : ℕ). Finds c.args.rows.now.rows c.args.pass.now c.find_for_write-found.new.pass k c.find_for_write-found.result) c.key_of.ensures c.find_for_write-found.ensures.finds).at
+
+pub returns-clause-tries : goal.returns-clause-tries
+returns-clause-tries g c =
+    let f = c.find_for_write-found.result in
+    tries_at c.args.rows.now.rows c.args.pass.now c.find_for_write-found.new.pass c.write_at.new.pass c.args.call.now c.write_at.result f.place f.epoch (subst (λ (k : ℕ). Finds c.args.rows.now.rows c.args.pass.now c.find_for_write-found.new.pass k f) c.key_of.ensures c.find_for_write-found.ensures.finds) c.write_at.ensures
+
+pub returns-clause-way : goal.returns-clause-way
+returns-clause-way g c = way_stays c.args.rows.now.rows c.find_for_write-found.new.pass.view c.write_at.new.pass.view c.find_for_write-found.new.way (attempt_reached c.args.rows.now.rows c.find_for_write-found.new.pass c.write_at.new.pass c.args.call.now c.find_for_write-found.result.place c.write_at.result c.write_at.ensures) c.find_for_write-found.ensures.way

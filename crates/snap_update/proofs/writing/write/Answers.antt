@@ -1,4 +1,4 @@
-use Rattle.snap_model.specs.History.{call_key}
+use Rattle.snap_prelude.specs.{call_key}
 use Rattle.snap_update.proofs.Entering.{writes_after}
 use Rattle.snap_update.proofs.Going.{still_ready}
 use Rattle.snap_update.proofs.Trying.{begins, tries_on, refused_going}
@@ -10,11 +10,11 @@ loop-init g c = (tt, tt, begins c.args.pass.now (call_key c.args.call.now))
 pub try_write-requires-clause-ready : goal.try_write-requires-clause-ready
 try_write-requires-clause-ready g c = let k = c.loop.invariant.2 in still_ready c.args.pass.now c.loop.pass (call_key c.args.call.now) k.drawn k.more c.requires.ready k.goes
 
-pub returns-in-Made : goal.returns-in-Made
-returns-in-Made g c = let k = c.loop.invariant.2 in writes_after c.args.pass.now c.loop.pass c.try_write.new.pass (call_key c.args.call.now) k.drawn k.more c.args.call.now c.in-Made.reply k.goes c.in-Made.ensures
+pub returns-in-Made-clause-answers : goal.returns-in-Made-clause-answers
+returns-in-Made-clause-answers g c = let k = c.loop.invariant.2 in writes_after c.args.pass.now c.loop.pass c.try_write.new.pass (call_key c.args.call.now) k.drawn k.more c.args.call.now c.in-Made.reply k.goes c.in-Made.ensures.tries
 
 pub loop-preserved : goal.loop-preserved
-loop-preserved g c = (tt, tt, tries_on c.args.rows.now.rows c.args.pass.now c.loop.pass c.try_write.new.pass c.args.call.now c.loop.invariant.2 c.in-Again.ensures)
+loop-preserved g c = (tt, tt, tries_on c.args.rows.now.rows c.args.pass.now c.loop.pass c.try_write.new.pass c.args.call.now c.loop.invariant.2 c.in-Again.ensures.tries)
 
-pub returns-in-Refused : goal.returns-in-Refused
-returns-in-Refused g c = let h = c.in-Refused.ensures in (h.0, refused_going c.args.rows.now.rows c.args.pass.now c.loop.pass c.try_write.new.pass c.args.call.now c.loop.invariant.2 (h.1, h.2))
+pub returns-in-Refused-clause-answers : goal.returns-in-Refused-clause-answers
+returns-in-Refused-clause-answers g c = let h = c.in-Refused.ensures.tries in (h.0, refused_going c.args.rows.now.rows c.args.pass.now c.loop.pass c.try_write.new.pass c.args.call.now c.loop.invariant.2 (h.1, h.2))

@@ -1,4 +1,4 @@
-use Rattle.snap_model.specs.History.{call_key}
+use Rattle.snap_prelude.specs.{call_key}
 use Rattle.snap_update.specs.Attempts.{KeepsTrying}
 use Rattle.snap_update.proofs.writing.write.Given as goal
 
