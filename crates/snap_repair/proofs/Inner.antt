@@ -1,36 +1,21 @@
 -- The double rotation: what each of its parts leaves for the next.
 use Rattle.std.proofs.Common.{append_assoc, ◌≡◌, ◌≢◌, ◌∙◌, ◌∷◌, ◌++◌, inl, inr, ℕ, List, [], Bool, true, false, cond, le-leb, Option, Some, None, refl, sym, ap, subst, arith, zero, suc, ⊎_elim, ◌||◌}
-use Rattle.std.specs.declared.snapshot.Snapshot.{Snapshot}
+use Rattle.snap_prelude.proofs.Common.{Snapshot}
 use Rattle.snap_repair.specs.Answers.{FindsWorn, Frees, IsMending, IsRefused, IsToLower, IsWornOut, Stops, Tries, freed, stops_full}
 use Rattle.snap_repair.specs.declared.answer.Repaired.TheVariants.{Done, RowsOut, StampOut}
 use Rattle.snap_repair.specs.Mending.{Looks, Mends, mended}
 use Rattle.snap_repair.specs.Raising.{Lifts}
 use Rattle.snap_repair.specs.declared.answer.Repaired.{Repaired}
-use Rattle.snap_rule.specs.declared.change.Doing.TheVariants.{Nothing}
+use Rattle.snap_prelude.specs.{aimed_at, aimed_view, Among, Becomes, count_of, Fact, fact, Field}
+use Rattle.snap_prelude.specs.{is_last, IsHeldRow, IsKnown, Known, last_count, link_field, Mark}
+use Rattle.snap_prelude.specs.{MayAimAt, Nothing, other, read, Side, Stamp, times, unlocked, View}
 use Rattle.snap_search.proofs.Working.{grows_read, no_notes}
-use Rattle.snap_rule.specs.declared.debt.Mark.{Mark}
 use Rattle.snap_shape.proofs.Shaping.{born, edge_stays, pair_of}
 use Rattle.snap_shape.proofs.Touching.{None as NoOther, Stays, grip_stays, loaded}
-use Rattle.snap_steps.specs.Steps.Debts.{aimed_at}
 use Rattle.snap_shape.specs.Grips.{HasGrip, IsEdge, IsTurning, Leads, edge_at, turn_at}
 use Rattle.snap_shape.specs.Shapes.{Rotates, later}
 use Rattle.snap_shape.specs.declared.grip.Grip.{Grip}
 use Rattle.snap_shape.specs.declared.grip.Turn.{Turn}
-use Rattle.snap_stamp.specs.Sides.{other}
-use Rattle.snap_stamp.specs.Stamps.{count_of, last_count}
-use Rattle.snap_stamp.specs.declared.layout.Field.{Field}
-use Rattle.snap_stamp.specs.declared.layout.Field.TheVariants.{Stamp}
-use Rattle.snap_stamp.specs.declared.side.Side.{Side}
-use Rattle.snap_stamp.specs.declared.side.Side.TheVariants as sides
-use Rattle.snap_steps.specs.Counting.{Among, times}
-use Rattle.snap_steps.specs.Facts.{IsKnown, fact}
-use Rattle.snap_steps.specs.Seen.{Known, Becomes}
-use Rattle.snap_steps.specs.States.{link_field}
-use Rattle.snap_steps.specs.Steps.Fields.{read, is_last}
-use Rattle.snap_steps.specs.Steps.Settling.{IsHeldRow, MayAimAt, aimed_view}
-use Rattle.snap_steps.specs.Steps.Locks.{unlocked}
-use Rattle.snap_steps.specs.declared.view.Fact.{Fact}
-use Rattle.snap_steps.specs.declared.view.View.{View}
 use Rattle.snap_repair.proofs.Mending.{edge_looks, grip_looks, keeps_holds, keeps_mends, looks_on, mends_on, mends_to, no_rows, read_looks}
 
 -- a pass that repairs goes on with it
@@ -43,14 +28,14 @@ aims_mends a b r key h = let e = h.1 in let s = loaded a (record { table = a.tab
   record {
     is = e ∙ ap (λ (k : Known). mended a k.view) (sym e);
     whole = ap (λ (k : Known). k.view.doing) e;
-    links = no_rows a.view b.view (ap (λ (k : Known). k.view.drawn) e) (ap (λ (k : Known). k.view.own) e);
+    links = no_rows a.view b.view (ap (λ (k : Known). k.view.drawn) e) (ap (λ (k : Known). k.view.fresh.own) e);
     more = [];
     found = λ h. h;
-    noted = no_notes a.view b.view (ap (λ (k : Known). k.view.notes) e) (ap (λ (k : Known). k.view.handed) e) (ap (λ (k : Known). k.view.epochs) e) (λ i. ap (λ (k : Known). k.view.worn) e ∙ ap (λ (t : Bool). t || is_last Stamp h.0) i);
-    reached = λ q. omega (arith, s.reached q, ap (λ (k : Known). times q k.view.reached) e);
-    present = λ n h. subst (λ (k : Known). Among n k.view.present) (sym e) h;
-    lasting = λ q g y h. subst (λ (k : Known). IsKnown k.view.lasting q g y) (sym e) h;
-    refused = grows_read a b r Stamp h.0 (ap (λ (k : Known). k.view.refused) e);
+    noted = no_notes a.view b.view (ap (λ (k : Known). k.view.noted.notes) e) (ap (λ (k : Known). k.view.noted.handed) e) (ap (λ (k : Known). k.view.noted.epochs) e) (λ i. ap (λ (k : Known). k.view.noted.worn) e ∙ ap (λ (t : Bool). t || is_last Stamp h.0) i);
+    reached = λ q. omega (arith, s.reached q, ap (λ (k : Known). times q k.view.trail.reached) e);
+    present = λ n h. subst (λ (k : Known). Among n k.view.words.present) (sym e) h;
+    lasting = λ q g y h. subst (λ (k : Known). IsKnown k.view.words.lasting q g y) (sym e) h;
+    refused = grows_read a b r Stamp h.0 (ap (λ (k : Known). k.view.words.refused) e);
   },
   ap (λ (k : Known). k.view.holds) e,
 )
@@ -83,8 +68,8 @@ inner_edge e f h row lower inner d l i a3 nz t s = record {
 }
 
 other_twice : (d : Side) → other (other d) ≡ d
-other_twice sides.Left = refl
-other_twice sides.Right = refl
+other_twice Side.Left = refl
+other_twice Side.Right = refl
 
 -- the row that the first rotation lowered, below the inner one
 pub dropped_edge : (e f : Known) (row lower inner : Grip) (d : Side) → IsEdge e.view (edge_at row d lower) → IsEdge e.view (edge_at lower (other d) inner) → Rotates e f (turn_at row d lower (other d) inner) → IsEdge f.view (edge_at inner d (later lower))
@@ -111,9 +96,9 @@ known_right [] m r f x h = h
 known_right (y ∷ ys) m r f x h = inr (known_right ys m r f x h)
 
 pub refused_to : (a b c : Known) (r x : ℕ) → Mends a b → IsRefused b c r x → IsRefused a c r x
-refused_to a b c r x m h = let g = m.refused in (g.0 ++ h.0, h.1 ∙ ap (λ (l : List Fact). l ++ h.0) g.1 ∙ append_assoc a.view.refused g.0 h.0, known_right g.0 h.0 r Stamp x h.2)
+refused_to a b c r x m h = let g = m.refused in (g.0 ++ h.0, h.1 ∙ ap (λ (l : List Fact). l ++ h.0) g.1 ∙ append_assoc a.view.words.refused g.0 h.0, known_right g.0 h.0 r Stamp x h.2)
 
-refused_by : (a b c : Known) (r x : ℕ) → IsRefused a b r x → c.view.refused ≡ b.view.refused → IsRefused a c r x
+refused_by : (a b c : Known) (r x : ℕ) → IsRefused a b r x → c.view.words.refused ≡ b.view.words.refused → IsRefused a c r x
 refused_by a b c r x h same = (h.0, same ∙ h.1, h.2)
 
 freed_append : (l : List ℕ) (r : ℕ) (v : View) → freed (l ++ r ∷ []) v ≡ unlocked (freed l v) r
@@ -133,8 +118,8 @@ stops_to rows a b c (Some (StampOut r at)) m h = record { before = mends_on a b 
 pub stops_by : (rows : ℕ) (a b c : Known) (row : ℕ) (o : Option Repaired) → Stops rows a b o → Becomes b c (unlocked b.view row) → Stops rows a c o
 stops_by rows a b c row None h e = tt
 stops_by rows a b c row (Some Done) h e = ap (λ (k : Known). k.view.debt) e ∙ h
-stops_by rows a b c row (Some (RowsOut n at)) h e = record { all = h.all; before = h.before; parent = h.parent; side = h.side; wants = h.wants; after = frees_then at.value b c row h.after e; full = omega (arith, h.full, ap (λ (k : Known). k.view.handed) e) }
-stops_by rows a b c row (Some (StampOut r at)) h e = record { before = h.before; last = h.last; to_lower = h.to_lower; noted = refused_by a b c r h.last.stamp h.noted (ap (λ (k : Known). k.view.refused) e); after = frees_then at.value b c row h.after e; worn = ap (λ (k : Known). k.view.worn) e ∙ h.worn }
+stops_by rows a b c row (Some (RowsOut n at)) h e = record { all = h.all; before = h.before; parent = h.parent; side = h.side; wants = h.wants; after = frees_then at.value b c row h.after e; full = omega (arith, h.full, ap (λ (k : Known). k.view.noted.handed) e) }
+stops_by rows a b c row (Some (StampOut r at)) h e = record { before = h.before; last = h.last; to_lower = h.to_lower; noted = refused_by a b c r h.last.stamp h.noted (ap (λ (k : Known). k.view.words.refused) e); after = frees_then at.value b c row h.after e; worn = ap (λ (k : Known). k.view.noted.worn) e ∙ h.worn }
 
 pub tries_after : (rows : ℕ) (a b c : Known) (o : Option Repaired) → Mends a b → b.view.holds ≡ a.view.holds → Tries rows b c o → Tries rows a c o
 tries_after rows a b c o m h t = record { mends = mends_to (stops_full o) a b c m t.mends; holds = t.holds ∙ h; stops = stops_to rows a b c o m t.stops }
@@ -159,8 +144,8 @@ pub worn_here : (a b : Known) (g : Grip) → HasGrip a.view g → Becomes a b (r
 worn_here a b g h e last =
     let s = read_looks a b g.row Stamp g.stamp e in let i = grip_looks a b g s h in let yes : is_last Stamp g.stamp ≡ true = le-leb last_count (count_of g.stamp) (omega (arith, last)) in record {
       looks = s;
-      last = record { held = i.held; stamp = g.stamp; found = i.is_stamp; last = last; worn = ap (λ (k : Known). k.view.worn) e ∙ ap (λ (t : Bool). a.view.worn || t) yes ∙ or_true a.view.worn };
-      noted = (fact g.row Stamp g.stamp ∷ [], ap (λ (k : Known). k.view.refused) e ∙ ap (λ (t : Bool). cond t (a.view.refused ++ fact g.row Stamp g.stamp ∷ []) a.view.refused) yes, inl (refl, refl, refl));
+      last = record { held = i.held; stamp = g.stamp; found = i.is_stamp; last = last; worn = ap (λ (k : Known). k.view.noted.worn) e ∙ ap (λ (t : Bool). a.view.noted.worn || t) yes ∙ or_true a.view.noted.worn };
+      noted = (fact g.row Stamp g.stamp ∷ [], ap (λ (k : Known). k.view.words.refused) e ∙ ap (λ (t : Bool). cond t (a.view.words.refused ++ fact g.row Stamp g.stamp ∷ []) a.view.words.refused) yes, inl (refl, refl, refl));
     }
   where
     or_true : (t : Bool) → (t || true) ≡ true
@@ -171,9 +156,9 @@ worn_here a b g h e last =
 pub aimed_stays : (a b : Known) (r key : ℕ) → ((x : ℕ) × Becomes a b (aimed_view a.view r key x)) → Stays a b NoOther
 aimed_stays a b r key h = let e = h.1 in let s = loaded a (record { table = a.table; view = read a.view r Stamp h.0 }) r Stamp h.0 refl in record {
   holds = ap (λ (k : Known). k.view.holds) e;
-  reached = λ q. omega (arith, s.reached q, ap (λ (k : Known). times q k.view.reached) e);
-  present = ap (λ (k : Known). k.view.present) e;
-  knows = λ q g y ne i. subst (λ (k : Known). IsKnown k.view.knows q g y) (sym e) (s.knows q g y (λ z. z) i);
+  reached = λ q. omega (arith, s.reached q, ap (λ (k : Known). times q k.view.trail.reached) e);
+  present = ap (λ (k : Known). k.view.words.present) e;
+  knows = λ q g y ne i. subst (λ (k : Known). IsKnown k.view.words.knows q g y) (sym e) (s.knows q g y (λ z. z) i);
 }
 
 aimed_key : (r key : ℕ) (l : List Mark) → r ≢ 0 → (aimed_at r key l).to_do ≡ Some key

@@ -1,31 +1,22 @@
 -- A row that gets its right height, and the to-do key that goes up.
 use Rattle.std.proofs.Common.{◌≡◌, ◌≢◌, ◌∙◌, ◌⊎◌, ◌∷◌, ◌==◌, inl, inr, ℕ, zero, suc, List, [], Bool, true, false, cond, eqb-true, Some, refl, sym, ap, subst, arith, ⊎_elim}
-use mathlib.Core.Logic.{dite}
-use native.Mathlib.Decide.{ℕ_discrete}
-use Rattle.snap_repair.specs.Looking.{HasLook, IsEven, Routes, height_over}
+use Rattle.snap_prelude.proofs.Common.{dite, ℕ_discrete}
+use Rattle.snap_repair.specs.Answers.{EndsRepair}
+use Rattle.snap_repair.specs.Looking.{HasLook, IsEven, Routes, ShowsSettled, height_over}
 use Rattle.snap_repair.specs.Mending.{Looks, Mends, mended}
 use Rattle.snap_repair.specs.Raising.{Heightens, Lifts, SetsRight}
 use Rattle.snap_repair.specs.declared.look.Look.{Look}
-use Rattle.snap_rule.specs.Debt.{IsListed}
-use Rattle.snap_rule.specs.Debt.Lists.{or_else, taken}
-use Rattle.snap_rule.specs.declared.debt.Mark.{Mark}
+use Rattle.snap_prelude.specs.{aimed_at, Among, Becomes, Birth, ChildHeight, Field}
+use Rattle.snap_prelude.specs.{HasHeight, Height, heightened, heights_forgotten, IsBelow}
+use Rattle.snap_prelude.specs.{IsKnown, IsListed, IsRightHeight, IsSeenSettled, Key, key_at}
+use Rattle.snap_prelude.specs.{Known, link_field, Mark, or_else, passed_up, settled_last}
+use Rattle.snap_prelude.specs.{Side, Stamp, taken, times, Value, View, word_in}
 use Rattle.snap_search.proofs.Working.{grows_same, no_notes}
 use Rattle.snap_shape.proofs.Touching.{One, stored, stored_here}
 use Rattle.snap_shape.specs.Grips.{HasGrip, IsEdge, IsOfNow, edge_at}
 use Rattle.snap_shape.specs.Shapes.{Unlinks}
 use Rattle.snap_shape.specs.declared.grip.Grip.{Grip}
-use Rattle.snap_stamp.specs.declared.layout.Field.{Field}
-use Rattle.snap_stamp.specs.declared.layout.Field.TheVariants.{Birth, Height, Key, Left, Right, Stamp, Value}
-use Rattle.snap_stamp.specs.declared.side.Side.{Side}
-use Rattle.snap_stamp.specs.declared.side.Side.TheVariants as sides
-use Rattle.snap_steps.specs.Counting.{Among, times}
-use Rattle.snap_steps.specs.Facts.{IsKnown, heights_forgotten, word_in}
-use Rattle.snap_steps.specs.Seen.{Known, Becomes}
-use Rattle.snap_steps.specs.States.{link_field}
-use Rattle.snap_steps.specs.Steps.Debts.{aimed_at, key_at}
-use Rattle.snap_steps.specs.Steps.Settling.{HasHeight, IsBelow, IsRightHeight, IsSeenSettled, heightened, passed_up}
-use Rattle.snap_steps.specs.declared.view.ChildHeight.{ChildHeight}
-use Rattle.snap_steps.specs.declared.view.View.{View}
+use Rattle.snap_stamp.specs.declared.layout.Field.TheVariants.{Left, Right}
 use Rattle.snap_repair.proofs.Mending.{grip_looks, keeps_holds, keeps_mends, mends_on, no_rows}
 use Rattle.snap_repair.proofs.Raising.{grip_height, link_no_height, listed_more, stored_mends}
 
@@ -41,7 +32,7 @@ mends_itself a = record {
   reached = λ r. omega arith;
   present = λ e h. h;
   lasting = λ q f x h. h;
-  refused = grows_same a.view.refused a.view.refused refl;
+  refused = grows_same a.view.words.refused a.view.words.refused refl;
 }
 
 -- and neither does a look
@@ -62,7 +53,7 @@ below_else (x ∷ xs) p r d h ne i = go (x.row == p) refl i (λ k. below_else xs
 pub right_already : (a : Known) (parent row : Grip) (rows : ℕ) (l : Look) → a.view.debt.to_do ≡ Some row.key → HasLook rows a.view row.row l → l.height ≡ height_over l → SetsRight a a row l
 right_already a parent row rows l to_do look same = record {
   heightens = record { mends = mends_itself a; holds = refl; knows = λ q f x ne h. h; listed = λ n x h. h; to_do = to_do ∙ sym (ap (λ o. or_else o row.key) to_do) };
-  height = subst (IsKnown a.view.knows row.row Height) same look.height;
+  height = subst (IsKnown a.view.words.knows row.row Height) same look.height;
   left_height = look.left_height;
   right_height = look.right_height;
 }
@@ -76,12 +67,12 @@ right_now a b parent row rows l h apart look is e =
         mends = stored_mends a b (heightened a.view parent.row row.row row.key h) (One row.row Height) e refl refl refl refl refl refl refl refl refl refl refl s;
         holds = s.holds;
         knows = λ q f x ne k. s.knows q f x ne k;
-        listed = λ n x k. subst (λ (z : Known). IsListed n x z.view.debt.list) (sym e) (listed_more parent.row (word_in a.view.knows parent.row Stamp) n x a.view.debt.list k);
+        listed = λ n x k. subst (λ (z : Known). IsListed n x z.view.debt.list) (sym e) (listed_more parent.row (word_in a.view.words.knows parent.row Stamp) n x a.view.debt.list k);
         to_do = ap (λ (k : Known). k.view.debt.to_do) e;
       };
-      height = subst (IsKnown b.view.knows row.row Height) is (stored_here a b (heightened a.view parent.row row.row row.key h) row.row Height h e refl);
-      left_height = height sides.Left l.left_height look.left_height;
-      right_height = height sides.Right l.right_height look.right_height;
+      height = subst (IsKnown b.view.words.knows row.row Height) is (stored_here a b (heightened a.view parent.row row.row row.key h) row.row Height h e refl);
+      left_height = height Side.Left l.left_height look.left_height;
+      right_height = height Side.Right l.right_height look.right_height;
     }
 
 -- the right height, for the store
@@ -103,8 +94,21 @@ seen_settled a b parent row rows l look even full s = record {
       (λ nz. inl (l.value, nz, kept Value l.value (λ e. cc) look.value));
 }
   where
-    kept : (f : Field) (x : ℕ) → (f ≡ Height → ⊥) → IsKnown a.view.knows row.row f x → IsKnown b.view.knows row.row f x
+    kept : (f : Field) (x : ℕ) → (f ≡ Height → ⊥) → IsKnown a.view.words.knows row.row f x → IsKnown b.view.words.knows row.row f x
     kept f x ne h = s.heightens.knows row.row f x (λ z. ne z.1) h
+
+-- and so does what was loaded of it
+pub look_settled : (v : View) (r rows : ℕ) (l : Look) → HasLook rows v r l → ShowsSettled l → IsSeenSettled v r
+look_settled v r rows l look s = record {
+  height = l.height;
+  left = l.left_height;
+  right = l.right_height;
+  is_height = look.height;
+  has_left = look.left_height;
+  has_right = look.right_height;
+  balanced = s.0;
+  full = dite (ℕ_discrete l.value 0) (λ z. inr (l.left, l.right, (λ q. s.1 (z, inl q)), (λ q. s.1 (z, inr q)), look.left, look.right)) (λ nz. inl (l.value, nz, look.value));
+}
 
 -- the row and its parent are joined still
 pub edge_height : (a b : Known) (parent r : Grip) (upper lower : Grip) (d : Side) → Heightens a b r → IsEdge a.view (edge_at upper d lower) → IsEdge b.view (edge_at upper d lower)
@@ -117,22 +121,26 @@ edge_height a b parent r upper lower d s e = record {
   apart = e.apart;
 }
 
-passed_mends : (b c : Known) (p key r : ℕ) → Becomes b c (passed_up b.view p key r) → Mends b c
+pub passed_mends : (b c : Known) (p key r : ℕ) → Becomes b c (passed_up b.view p key r) → Mends b c
 passed_mends b c p key r e = record {
   is = e ∙ ap (λ (k : Known). mended b k.view) (sym e);
   whole = ap (λ (k : Known). k.view.doing) e;
-  links = no_rows b.view c.view (ap (λ (k : Known). k.view.drawn) e) (ap (λ (k : Known). k.view.own) e);
+  links = no_rows b.view c.view (ap (λ (k : Known). k.view.drawn) e) (ap (λ (k : Known). k.view.fresh.own) e);
   more = [];
   found = λ h. h;
-  noted = no_notes b.view c.view (ap (λ (k : Known). k.view.notes) e) (ap (λ (k : Known). k.view.handed) e) (ap (λ (k : Known). k.view.epochs) e) (λ h. ap (λ (k : Known). k.view.worn) e ∙ h);
-  reached = λ q. omega (arith, ap (λ (k : Known). times q k.view.reached) e);
-  present = λ n h. subst (λ (k : Known). Among n k.view.present) (sym e) h;
-  lasting = λ q g y h. subst (λ (k : Known). IsKnown k.view.lasting q g y) (sym e) h;
-  refused = grows_same b.view.refused c.view.refused (ap (λ (k : Known). k.view.refused) e);
+  noted = no_notes b.view c.view (ap (λ (k : Known). k.view.noted.notes) e) (ap (λ (k : Known). k.view.noted.handed) e) (ap (λ (k : Known). k.view.noted.epochs) e) (λ h. ap (λ (k : Known). k.view.noted.worn) e ∙ h);
+  reached = λ q. omega (arith, ap (λ (k : Known). times q k.view.trail.reached) e);
+  present = λ n h. subst (λ (k : Known). Among n k.view.words.present) (sym e) h;
+  lasting = λ q g y h. subst (λ (k : Known). IsKnown k.view.words.lasting q g y) (sym e) h;
+  refused = grows_same b.view.words.refused c.view.words.refused (ap (λ (k : Known). k.view.words.refused) e);
 }
 
+-- a repair ends
+pub ends_repair : (a b : Known) → Becomes a b (settled_last a.view) → EndsRepair a b
+ends_repair a b e = record { mends = passed_mends a b 0 0 0 e; holds = ap (λ (k : Known). k.view.holds) e; debt = ap (λ (k : Known). k.view.debt) e }
+
 -- the same words are known where only steps and debt are others
-same_grip : (b c : Known) (g : Grip) → c.view.knows ≡ b.view.knows → c.view.holds ≡ b.view.holds → c.view.reached ≡ b.view.reached → c.view.present ≡ b.view.present → HasGrip b.view g → HasGrip c.view g
+same_grip : (b c : Known) (g : Grip) → c.view.words.knows ≡ b.view.words.knows → c.view.holds ≡ b.view.holds → c.view.trail.reached ≡ b.view.trail.reached → c.view.words.present ≡ b.view.words.present → HasGrip b.view g → HasGrip c.view g
 same_grip b c g knows holds reached present h = record {
   held = subst (Among g.row) (sym holds) h.held;
   is_key = subst (λ l. IsKnown l g.row Key g.key) (sym knows) h.is_key;
@@ -153,8 +161,8 @@ pub lifts : (a b c : Known) (parent row : Grip) (l : Look) → SetsRight a b row
 lifts a b c parent row l s e = record {
   mends = mends_on a b c s.heightens.mends (passed_mends b c parent.row parent.key row.row e);
   holds = ap (λ (k : Known). k.view.holds) e ∙ s.heightens.holds;
-  others = λ q f x n1 n2 h. subst (λ (k : Known). IsKnown k.view.knows q f x) (sym e) (s.heightens.knows q f x (λ z. n2 z.0) h);
-  grips = λ g ne h. same_grip b c g (ap (λ (k : Known). k.view.knows) e) (ap (λ (k : Known). k.view.holds) e) (ap (λ (k : Known). k.view.reached) e) (ap (λ (k : Known). k.view.present) e) (grip_height a b parent row g s.heightens h);
+  others = λ q f x n1 n2 h. subst (λ (k : Known). IsKnown k.view.words.knows q f x) (sym e) (s.heightens.knows q f x (λ z. n2 z.0) h);
+  grips = λ g ne h. same_grip b c g (ap (λ (k : Known). k.view.words.knows) e) (ap (λ (k : Known). k.view.holds) e) (ap (λ (k : Known). k.view.trail.reached) e) (ap (λ (k : Known). k.view.words.present) e) (grip_height a b parent row g s.heightens h);
 }
 
 pub lifted_to : (b c : Known) (p key r : ℕ) → Becomes b c (passed_up b.view p key r) → c.view.debt.to_do ≡ key_at p key

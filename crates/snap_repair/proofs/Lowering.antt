@@ -1,13 +1,13 @@
 -- Copies and locks on the way down, and their release.
 use Rattle.std.proofs.Common.{◌≡◌, ◌≢◌, ◌≤◌, ◌<◌, ◌∙◌, ◌+◌, ◌∷◌, inl, inr, ℕ, List, [], Bool, cond, Option, Some, refl, sym, ap, subst, arith, ⊎_elim, eq-eqb, ne_eqb}
-use Rattle.std.specs.declared.snapshot.Snapshot.{Snapshot}
-use mathlib.Core.Logic.{dite}
-use native.Mathlib.Decide.{ℕ_discrete}
+use Rattle.snap_prelude.proofs.Common.{dite, Snapshot, ℕ_discrete}
 use Rattle.snap_locks.specs.Held.{HasLocked}
 use Rattle.snap_repair.proofs.Inner.{stops_by, stops_to}
 use Rattle.snap_repair.specs.Answers.{IsRowsOut, Tries, stops_full}
 use Rattle.snap_repair.specs.Looking.{HasLook, LeansTo, child_on, height_on}
-use Rattle.snap_repair.specs.Lowering.{HasChild, IsHigher, IsTilt, LacksRows, Leans, OwnsLower}
+use Rattle.snap_prelude.specs.{Among, Becomes, HasHeight, IsKnown, IsTilt, Known, Leans}
+use Rattle.snap_prelude.specs.{link_field, other, removed, Side, times, unlocked, View}
+use Rattle.snap_repair.specs.Lowering.{HasChild, IsHigher, LacksRows, OwnsLower}
 use Rattle.snap_repair.specs.Mending.{Looks, Mends, NoWord, mended}
 use Rattle.snap_repair.specs.declared.answer.Repaired.{Repaired}
 use Rattle.snap_repair.specs.declared.answer.Repaired.TheVariants.{RowsOut}
@@ -16,16 +16,6 @@ use Rattle.snap_search.proofs.Working.{grows_same, no_notes}
 use Rattle.snap_shape.proofs.Touching.{link_no_birth, link_no_key, link_no_stamp}
 use Rattle.snap_shape.specs.Grips.{HasGrip, IsEdge, Leads, edge_at}
 use Rattle.snap_shape.specs.declared.grip.Grip.{Grip}
-use Rattle.snap_stamp.specs.Sides.{other}
-use Rattle.snap_stamp.specs.declared.side.Side.{Side}
-use Rattle.snap_stamp.specs.declared.side.Side.TheVariants as sides
-use Rattle.snap_steps.specs.Counting.{Among, removed, times}
-use Rattle.snap_steps.specs.Facts.{IsKnown}
-use Rattle.snap_steps.specs.Seen.{Known, Becomes}
-use Rattle.snap_steps.specs.States.{link_field}
-use Rattle.snap_steps.specs.Steps.Locks.{unlocked}
-use Rattle.snap_steps.specs.Steps.Settling.{HasHeight}
-use Rattle.snap_steps.specs.declared.view.View.{View}
 use Rattle.snap_repair.proofs.Mending.{grip_firm, locked_firm, mends_by, mends_on, mends_to, no_rows}
 
 removed_none : (r : ℕ) (l : List ℕ) → times r l ≡ 0 → removed r l ≡ l
@@ -44,14 +34,14 @@ freed_mends : (d e : Known) (r : ℕ) → Becomes d e (unlocked d.view r) → Me
 freed_mends d e r h = record {
   is = h ∙ ap (λ (k : Known). mended d k.view) (sym h);
   whole = ap (λ (k : Known). k.view.doing) h;
-  links = no_rows d.view e.view (ap (λ (k : Known). k.view.drawn) h) (ap (λ (k : Known). k.view.own) h);
+  links = no_rows d.view e.view (ap (λ (k : Known). k.view.drawn) h) (ap (λ (k : Known). k.view.fresh.own) h);
   more = [];
   found = λ h. h;
-  noted = no_notes d.view e.view (ap (λ (k : Known). k.view.notes) h) (ap (λ (k : Known). k.view.handed) h) (ap (λ (k : Known). k.view.epochs) h) (λ i. ap (λ (k : Known). k.view.worn) h ∙ i);
-  reached = λ q. omega (arith, ap (λ (k : Known). times q k.view.reached) h);
-  present = λ n i. subst (λ (k : Known). Among n k.view.present) (sym h) i;
-  lasting = λ q g y i. subst (λ (k : Known). IsKnown k.view.lasting q g y) (sym h) i;
-  refused = grows_same d.view.refused e.view.refused (ap (λ (k : Known). k.view.refused) h);
+  noted = no_notes d.view e.view (ap (λ (k : Known). k.view.noted.notes) h) (ap (λ (k : Known). k.view.noted.handed) h) (ap (λ (k : Known). k.view.noted.epochs) h) (λ i. ap (λ (k : Known). k.view.noted.worn) h ∙ i);
+  reached = λ q. omega (arith, ap (λ (k : Known). times q k.view.trail.reached) h);
+  present = λ n i. subst (λ (k : Known). Among n k.view.words.present) (sym h) i;
+  lasting = λ q g y i. subst (λ (k : Known). IsKnown k.view.words.lasting q g y) (sym h) i;
+  refused = grows_same d.view.words.refused e.view.words.refused (ap (λ (k : Known). k.view.words.refused) h);
 }
 
 -- work under a lock that is freed again
@@ -79,9 +69,9 @@ edge_owned rows a b c parent side child r upper lower d ne o l e =
     grip_owned rows a b parent side child g o h = grip_firm a b (λ q f. (q ≡ parent.row) × (f ≡ link_field side)) g o.firm (λ z. link_no_key side (sym z.1)) (λ z. link_no_stamp side (sym z.1)) (λ z. link_no_birth side (sym z.1)) h
 
 -- a side that is higher has a child
-pub child_there : (rows : ℕ) (v : View) (r : ℕ) (l : Look) (d : Side) → HasLook rows v r l → height_on l d ≢ 0 → (child_on l d ≢ 0) × IsKnown v.knows r (link_field d) (child_on l d)
-child_there rows v r l sides.Left h nz = ((λ z. nz (h.none.0 z)), h.left)
-child_there rows v r l sides.Right h nz = ((λ z. nz (h.none.1 z)), h.right)
+pub child_there : (rows : ℕ) (v : View) (r : ℕ) (l : Look) (d : Side) → HasLook rows v r l → height_on l d ≢ 0 → (child_on l d ≢ 0) × IsKnown v.words.knows r (link_field d) (child_on l d)
+child_there rows v r l Side.Left h nz = ((λ z. nz (h.none.0 z)), h.left)
+child_there rows v r l Side.Right h nz = ((λ z. nz (h.none.1 z)), h.right)
 
 -- the place of the copy of the inner grandchild
 pub inner_tilt : (v : View) (row lower : Grip) (d : Side) → Leans v row.row d → IsEdge v (edge_at row d lower) → HasChild v lower.row (other d) → IsTilt v row.row lower.row (other d)
@@ -89,17 +79,17 @@ inner_tilt v row lower d leans e c = record { higher = d; leans = leans; at = in
 
 -- that grandchild is the higher one by what was loaded
 pub higher_by : (rows : ℕ) (v : View) (r : ℕ) (l : Look) (d : Side) → HasLook rows v r l → height_on l d < height_on l (other d) → IsHigher v r (other d) × HasChild v r (other d)
-higher_by rows v r l sides.Left h t = (record { high = l.right_height; low = l.left_height; is_high = h.right_height; is_low = h.left_height; less = t }, (l.right, (λ z. omega (arith, h.none.1 z, t)), h.right))
-higher_by rows v r l sides.Right h t = (record { high = l.left_height; low = l.right_height; is_high = h.left_height; is_low = h.right_height; less = t }, (l.left, (λ z. omega (arith, h.none.0 z, t)), h.left))
+higher_by rows v r l Side.Left h t = (record { high = l.right_height; low = l.left_height; is_high = h.right_height; is_low = h.left_height; less = t }, (l.right, (λ z. omega (arith, h.none.1 z, t)), h.right))
+higher_by rows v r l Side.Right h t = (record { high = l.left_height; low = l.right_height; is_high = h.left_height; is_low = h.right_height; less = t }, (l.left, (λ z. omega (arith, h.none.0 z, t)), h.left))
 
 -- the row leans by what was loaded
 pub leans_by : (rows : ℕ) (v : View) (r : ℕ) (l : Look) (d : Side) → Among r v.holds → HasLook rows v r l → LeansTo l d → Leans v r d
-leans_by rows v r l sides.Left held h t = record { held = held; high = l.left_height; low = l.right_height; is_high = h.left_height; is_low = h.right_height; tilts = t }
-leans_by rows v r l sides.Right held h t = record { held = held; high = l.right_height; low = l.left_height; is_high = h.right_height; is_low = h.left_height; tilts = t }
+leans_by rows v r l Side.Left held h t = record { held = held; high = l.left_height; low = l.right_height; is_high = h.left_height; is_low = h.right_height; tilts = t }
+leans_by rows v r l Side.Right held h t = record { held = held; high = l.right_height; low = l.left_height; is_high = h.right_height; is_low = h.left_height; tilts = t }
 
 high_on : (l : Look) (d : Side) → LeansTo l d → height_on l d ≢ 0
-high_on l sides.Left t z = omega (arith, t, z)
-high_on l sides.Right t z = omega (arith, t, z)
+high_on l Side.Left t z = omega (arith, t, z)
+high_on l Side.Right t z = omega (arith, t, z)
 
 -- there is a child on that side
 pub child_by : (rows : ℕ) (v : View) (r : ℕ) (l : Look) (d : Side) → HasLook rows v r l → LeansTo l d → HasChild v r d
@@ -122,8 +112,8 @@ leans_owned rows a b c parent side child r d o l h k held same high nz low tilts
     }
   where
     no_other : (s : Side) → link_field (other s) ≢ link_field s
-    no_other sides.Left = λ e. cc
-    no_other sides.Right = λ e. cc
+    no_other Side.Left = λ e. cc
+    no_other Side.Right = λ e. cc
 
 pub lacks_tries : (rows n : ℕ) (a b : Known) (parent : ℕ) (d : Side) (at : Snapshot Known) → at.value ≡ b → LacksRows rows a b parent d n → Tries rows a b (Some (RowsOut n at))
 lacks_tries rows n a b parent d at is h = record { mends = h.mends; holds = h.holds; stops = subst (λ (k : Known). IsRowsOut rows a b k n) (sym is) (record { all = h.all; before = h.mends; parent = parent; side = d; wants = h.wants; after = ([], refl); full = h.full }) }
@@ -154,8 +144,8 @@ child_edge a b d upper side child lower s grip nz leads below same some apart = 
 }
 
 no_other : (s : Side) → link_field (other s) ≢ link_field s
-no_other sides.Left = λ e. cc
-no_other sides.Right = λ e. cc
+no_other Side.Left = λ e. cc
+no_other Side.Right = λ e. cc
 
 -- a height below a held row is known still, once a copy was linked elsewhere and locked
 height_owned : (rows : ℕ) (a b c : Known) (parent : ℕ) (side : Side) (child lock r : ℕ) (d : Side) (x : ℕ) → OwnsLower rows a b parent side child → HasLocked b c lock → ((r ≡ parent) × (link_field d ≡ link_field side) → x ≢ 0) → HasHeight a.view r d x → HasHeight c.view r d x

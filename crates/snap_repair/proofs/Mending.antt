@@ -1,36 +1,21 @@
 -- Work under locks, one step after another.
 use Rattle.std.proofs.Common.{◌≡◌, ◌∙◌, ◌⊎◌, ◌++◌, ◌∷◌, inl, inr, ℕ, List, [], Bool, true, false, refl, sym, ap, subst, arith, append_assoc, append-nil, ⊎_elim, ◌||◌}
-use mathlib.Core.Logic.{dite}
-use native.Mathlib.Decide.{ℕ_discrete}
+use Rattle.snap_prelude.proofs.Common.{dite, times-append, ℕ_discrete}
 use Rattle.snap_locks.specs.Held.{HasLocked}
 use Rattle.snap_copy.proofs.Copying.{epoch_not_full}
 use Rattle.snap_repair.specs.Mending.{Firm, LinksWhatItDraws, Looks, Mends, MendsTo, NoWord, TellsFull, mended}
-use Rattle.snap_rule.specs.State.{In}
-use Rattle.snap_search.specs.Places.{births_of}
-use Rattle.snap_search.specs.Walk.{KeepsReached}
+use Rattle.snap_prelude.specs.{Among, Becomes, Birth, born, Epoch, epoch_noted, Field, In}
+use Rattle.snap_prelude.specs.{is_last, IsBelow, IsKnown, KeepsReached, Key, Known}
+use Rattle.snap_prelude.specs.{link_field, Next, read, Side, Stamp, times, View, WordNote}
+use Rattle.snap_search.specs.Prelude.{births_of, worked, Works}
 use Rattle.snap_search.proofs.Working.{grows_on, grows_read, grows_same, no_notes, notes_on, with_more}
-use Rattle.snap_search.specs.Work.{Works, worked}
 use Rattle.snap_shape.proofs.Touching.{loaded}
 use Rattle.snap_shape.specs.Grips.{HasGrip, IsEdge, IsOfNow, edge_at}
 use Rattle.snap_shape.specs.Shapes.{Keeps}
 use Rattle.snap_shape.specs.declared.grip.Grip.{Grip}
-use Rattle.snap_stamp.specs.declared.layout.Field.{Field}
-use Rattle.snap_stamp.specs.declared.layout.Field.TheVariants.{Birth, Key, Stamp}
-use Rattle.snap_stamp.specs.declared.side.Side.{Side}
-use Rattle.snap_steps.specs.Counting.{Among, times}
-use Rattle.snap_steps.specs.Facts.{IsKnown}
-use Rattle.snap_steps.specs.Seen.{Known, Becomes}
-use Rattle.snap_steps.specs.States.{link_field}
-use Rattle.snap_steps.specs.Steps.Births.{born}
-use Rattle.snap_steps.specs.Steps.Fields.{read, is_last}
-use Rattle.snap_steps.specs.Steps.Header.{epoch_noted}
-use Rattle.snap_steps.specs.Steps.Settling.{IsBelow}
-use Rattle.snap_steps.specs.declared.view.View.{View}
-use Rattle.snap_steps.specs.declared.view.WordNote.{WordNote}
-use Rattle.snap_steps.specs.declared.view.WordNote.TheVariants.{Epoch, Next, Birth as BirthNote}
-use Rattle.snap_steps.proofs.Totals.{times-append}
+use Rattle.snap_steps.specs.declared.view.WordNote.TheVariants.{Birth as BirthNote}
 
-pub no_rows : (v w : View) → w.drawn ≡ v.drawn → w.own ≡ v.own → LinksWhatItDraws v w
+pub no_rows : (v w : View) → w.drawn ≡ v.drawn → w.fresh.own ≡ v.fresh.own → LinksWhatItDraws v w
 no_rows v w drawn own = record { rows = []; drawn = drawn ∙ sym (append-nil v.drawn); linked = λ r some_r. absurd (omega arith); no_more = λ r. omega (arith, ap (times r) own) }
 
 pub links_on : (u v w : View) → KeepsReached v w → LinksWhatItDraws u v → LinksWhatItDraws v w → LinksWhatItDraws u w
@@ -74,7 +59,7 @@ joined_mends full a b c o p x y found = record {
   reached = λ r. omega (arith, x.reached r, y.reached r);
   present = λ e h. y.present e (x.present e h);
   lasting = λ r f n h. y.lasting r f n (x.lasting r f n h);
-  refused = grows_on a.view.refused b.view.refused c.view.refused x.refused y.refused;
+  refused = grows_on a.view.words.refused b.view.words.refused c.view.words.refused x.refused y.refused;
 }
 
 same_size : (a b : Known) (o : Bool) → MendsTo o a b → b.view.rows ≡ a.view.rows
@@ -114,7 +99,7 @@ pub works_mends : (a b : Known) (more : List WordNote) → Works a b more → b.
 works_mends a b more w seen found = record {
   is = w.is ∙ (λ i. let k : Known = worked a b.view in record { table = k.table; view = record k.view { seen = seen i } }) ∙ sym (ap (λ (k : Known). mended a k.view) w.is);
   whole = ap (λ (k : Known). k.view.doing) w.is;
-  links = no_rows a.view b.view (ap (λ (k : Known). k.view.drawn) w.is) (ap (λ (k : Known). k.view.own) w.is);
+  links = no_rows a.view b.view (ap (λ (k : Known). k.view.drawn) w.is) (ap (λ (k : Known). k.view.fresh.own) w.is);
   more = more;
   noted = w.noted;
   found = found;
@@ -140,19 +125,19 @@ read_looks a b r f x e = let s = loaded a b r f x e in (
     mends = record {
       is = mended_by a b (read a.view r f x) e refl;
       whole = ap (λ (k : Known). k.view.doing) e;
-      links = no_rows a.view b.view (ap (λ (k : Known). k.view.drawn) e) (ap (λ (k : Known). k.view.own) e);
+      links = no_rows a.view b.view (ap (λ (k : Known). k.view.drawn) e) (ap (λ (k : Known). k.view.fresh.own) e);
       more = [];
       found = λ h. h;
-      noted = no_notes a.view b.view (ap (λ (k : Known). k.view.notes) e) (ap (λ (k : Known). k.view.handed) e) (ap (λ (k : Known). k.view.epochs) e) (λ h. ap (λ (k : Known). k.view.worn) e ∙ ap (λ (t : Bool). t || is_last f x) h);
+      noted = no_notes a.view b.view (ap (λ (k : Known). k.view.noted.notes) e) (ap (λ (k : Known). k.view.noted.handed) e) (ap (λ (k : Known). k.view.noted.epochs) e) (λ h. ap (λ (k : Known). k.view.noted.worn) e ∙ ap (λ (t : Bool). t || is_last f x) h);
       reached = s.reached;
       present = λ n h. subst (Among n) (sym s.present) h;
-      lasting = λ q g y h. subst (λ (k : Known). IsKnown k.view.lasting q g y) (sym e) h;
-      refused = grows_read a b r f x (ap (λ (k : Known). k.view.refused) e);
+      lasting = λ q g y h. subst (λ (k : Known). IsKnown k.view.words.lasting q g y) (sym e) h;
+      refused = grows_read a b r f x (ap (λ (k : Known). k.view.words.refused) e);
     };
     held = λ q h. subst (Among q) (sym s.holds) h;
     knows = λ q g y ne h. s.knows q g y (λ z. z) h;
     heights = λ q d h i. subst (λ (k : Known). IsBelow k.view.heights q d h) (sym e) i;
-    place = ap (λ (k : Known). k.view.place) e;
+    place = ap (λ (k : Known). k.view.way.place) e;
     debt = ap (λ (k : Known). k.view.debt) e;
   },
   s.holds,
@@ -165,19 +150,19 @@ epoch_looks a b x e = (
     mends = record {
       is = mended_by a b (epoch_noted a.view x) e refl;
       whole = ap (λ (k : Known). k.view.doing) e;
-      links = no_rows a.view b.view (ap (λ (k : Known). k.view.drawn) e) (ap (λ (k : Known). k.view.own) e);
+      links = no_rows a.view b.view (ap (λ (k : Known). k.view.drawn) e) (ap (λ (k : Known). k.view.fresh.own) e);
       more = Epoch x ∷ [];
-      noted = record { notes = ap (λ (k : Known). k.view.notes) e; handed = ap (λ (k : Known). k.view.handed) e; epochs = ap (λ (k : Known). k.view.epochs) e; worn = λ h. ap (λ (k : Known). k.view.worn) e ∙ h };
+      noted = record { notes = ap (λ (k : Known). k.view.noted.notes) e; handed = ap (λ (k : Known). k.view.noted.handed) e; epochs = ap (λ (k : Known). k.view.noted.epochs) e; worn = λ h. ap (λ (k : Known). k.view.noted.worn) e ∙ h };
       found = epoch_not_full a.view.rows x [] (λ z. z);
-      reached = λ r. omega (arith, ap (λ (k : Known). times r k.view.reached) e);
-      present = λ n h. subst (λ (k : Known). Among n k.view.present) (sym e) (with_more a.view.stage x n a.view.present h);
-      lasting = λ q g y h. subst (λ (k : Known). IsKnown k.view.lasting q g y) (sym e) h;
-      refused = grows_same a.view.refused b.view.refused (ap (λ (k : Known). k.view.refused) e);
+      reached = λ r. omega (arith, ap (λ (k : Known). times r k.view.trail.reached) e);
+      present = λ n h. subst (λ (k : Known). Among n k.view.words.present) (sym e) (with_more a.view.stage x n a.view.words.present h);
+      lasting = λ q g y h. subst (λ (k : Known). IsKnown k.view.words.lasting q g y) (sym e) h;
+      refused = grows_same a.view.words.refused b.view.words.refused (ap (λ (k : Known). k.view.words.refused) e);
     };
     held = λ q h. subst (λ (k : Known). Among q k.view.holds) (sym e) h;
-    knows = λ q g y ne h. subst (λ (k : Known). IsKnown k.view.knows q g y) (sym e) h;
+    knows = λ q g y ne h. subst (λ (k : Known). IsKnown k.view.words.knows q g y) (sym e) h;
     heights = λ q d h i. subst (λ (k : Known). IsBelow k.view.heights q d h) (sym e) i;
-    place = ap (λ (k : Known). k.view.place) e;
+    place = ap (λ (k : Known). k.view.way.place) e;
     debt = ap (λ (k : Known). k.view.debt) e;
   },
   ap (λ (k : Known). k.view.holds) e,
@@ -190,19 +175,19 @@ born_looks a b r x e = let s = loaded a (known_as a (read a.view r Birth x)) r B
     mends = record {
       is = mended_by a b (born a.view r x) e refl;
       whole = ap (λ (k : Known). k.view.doing) e;
-      links = no_rows a.view b.view (ap (λ (k : Known). k.view.drawn) e) (ap (λ (k : Known). k.view.own) e);
+      links = no_rows a.view b.view (ap (λ (k : Known). k.view.drawn) e) (ap (λ (k : Known). k.view.fresh.own) e);
       more = [];
       found = λ h. h;
-      noted = no_notes a.view b.view (ap (λ (k : Known). k.view.notes) e) (ap (λ (k : Known). k.view.handed) e) (ap (λ (k : Known). k.view.epochs) e) (λ h. ap (λ (k : Known). k.view.worn) e ∙ ap (λ (t : Bool). t || is_last Birth x) h);
-      reached = λ q. omega (arith, s.reached q, ap (λ (k : Known). times q k.view.reached) e);
-      present = λ n h. subst (λ (k : Known). Among n k.view.present) (sym e) h;
-      lasting = λ q g y h. subst (λ (k : Known). IsKnown k.view.lasting q g y) (sym e) (inr h);
-      refused = grows_same a.view.refused b.view.refused (ap (λ (k : Known). k.view.refused) e);
+      noted = no_notes a.view b.view (ap (λ (k : Known). k.view.noted.notes) e) (ap (λ (k : Known). k.view.noted.handed) e) (ap (λ (k : Known). k.view.noted.epochs) e) (λ h. ap (λ (k : Known). k.view.noted.worn) e ∙ ap (λ (t : Bool). t || is_last Birth x) h);
+      reached = λ q. omega (arith, s.reached q, ap (λ (k : Known). times q k.view.trail.reached) e);
+      present = λ n h. subst (λ (k : Known). Among n k.view.words.present) (sym e) h;
+      lasting = λ q g y h. subst (λ (k : Known). IsKnown k.view.words.lasting q g y) (sym e) (inr h);
+      refused = grows_same a.view.words.refused b.view.words.refused (ap (λ (k : Known). k.view.words.refused) e);
     };
     held = λ q h. subst (λ (k : Known). Among q k.view.holds) (sym e) h;
-    knows = λ q g y ne h. subst (λ (k : Known). IsKnown k.view.knows q g y) (sym e) (s.knows q g y (λ z. z) h);
+    knows = λ q g y ne h. subst (λ (k : Known). IsKnown k.view.words.knows q g y) (sym e) (s.knows q g y (λ z. z) h);
     heights = λ q d h i. subst (λ (k : Known). IsBelow k.view.heights q d h) (sym e) i;
-    place = ap (λ (k : Known). k.view.place) e;
+    place = ap (λ (k : Known). k.view.way.place) e;
     debt = ap (λ (k : Known). k.view.debt) e;
   },
   ap (λ (k : Known). k.view.holds) e,
@@ -240,14 +225,14 @@ pub keeps_mends : (a b : Known) (p r l : ℕ) → a.view.doing ≡ Rattle.snap_r
 keeps_mends a b p r l whole k = record {
   is = k.is ∙ ap (λ (x : Known). mended a x.view) (sym k.is);
   whole = k.whole ∙ sym whole;
-  links = no_rows a.view b.view (ap (λ (x : Known). x.view.drawn) k.is) (ap (λ (x : Known). x.view.own) k.is);
+  links = no_rows a.view b.view (ap (λ (x : Known). x.view.drawn) k.is) (ap (λ (x : Known). x.view.fresh.own) k.is);
   more = [];
   found = λ h. h;
-  noted = no_notes a.view b.view (ap (λ (x : Known). x.view.notes) k.is) (ap (λ (x : Known). x.view.handed) k.is) (ap (λ (x : Known). x.view.epochs) k.is) k.worn;
+  noted = no_notes a.view b.view (ap (λ (x : Known). x.view.noted.notes) k.is) (ap (λ (x : Known). x.view.noted.handed) k.is) (ap (λ (x : Known). x.view.noted.epochs) k.is) k.worn;
   reached = k.reached;
-  present = λ n h. subst (λ (x : Known). Among n x.view.present) (sym k.is) h;
-  lasting = λ q g y h. subst (λ (x : Known). IsKnown x.view.lasting q g y) (sym k.is) h;
-  refused = grows_same a.view.refused b.view.refused k.refused;
+  present = λ n h. subst (λ (x : Known). Among n x.view.words.present) (sym k.is) h;
+  lasting = λ q g y h. subst (λ (x : Known). IsKnown x.view.words.lasting q g y) (sym k.is) h;
+  refused = grows_same a.view.words.refused b.view.words.refused k.refused;
 }
 
 pub keeps_holds : (a b : Known) (p r l : ℕ) → Keeps a b p r l → b.view.holds ≡ a.view.holds
@@ -260,19 +245,19 @@ locked_firm a b r l = let e = l.is in (
     mends = record {
       is = e ∙ ap (λ (k : Known). mended a k.view) (sym e);
       whole = ap (λ (k : Known). k.view.doing) e;
-      links = no_rows a.view b.view (ap (λ (k : Known). k.view.drawn) e) (ap (λ (k : Known). k.view.own) e);
+      links = no_rows a.view b.view (ap (λ (k : Known). k.view.drawn) e) (ap (λ (k : Known). k.view.fresh.own) e);
       more = [];
       found = λ h. h;
-      noted = no_notes a.view b.view (ap (λ (k : Known). k.view.notes) e) (ap (λ (k : Known). k.view.handed) e) (ap (λ (k : Known). k.view.epochs) e) (λ h. ap (λ (k : Known). k.view.worn) e ∙ h);
-      reached = λ q. omega (arith, ap (λ (k : Known). times q k.view.reached) e);
-      present = λ n h. subst (λ (k : Known). Among n k.view.present) (sym e) h;
-      lasting = λ q g y h. subst (λ (k : Known). IsKnown k.view.lasting q g y) (sym e) h;
-      refused = (l.refused, (ap (λ (k : Known). k.view.refused) e));
+      noted = no_notes a.view b.view (ap (λ (k : Known). k.view.noted.notes) e) (ap (λ (k : Known). k.view.noted.handed) e) (ap (λ (k : Known). k.view.noted.epochs) e) (λ h. ap (λ (k : Known). k.view.noted.worn) e ∙ h);
+      reached = λ q. omega (arith, ap (λ (k : Known). times q k.view.trail.reached) e);
+      present = λ n h. subst (λ (k : Known). Among n k.view.words.present) (sym e) h;
+      lasting = λ q g y h. subst (λ (k : Known). IsKnown k.view.words.lasting q g y) (sym e) h;
+      refused = (l.refused, (ap (λ (k : Known). k.view.words.refused) e));
     };
     held = λ q h. omega (arith, h, ap (λ (k : Known). times q k.view.holds) e);
-    knows = λ q g y ne h. subst (λ (k : Known). IsKnown k.view.knows q g y) (sym e) h;
+    knows = λ q g y ne h. subst (λ (k : Known). IsKnown k.view.words.knows q g y) (sym e) h;
     heights = λ q d h i. subst (λ (k : Known). IsBelow k.view.heights q d h) (sym e) i;
-    place = ap (λ (k : Known). k.view.place) e;
+    place = ap (λ (k : Known). k.view.way.place) e;
     debt = ap (λ (k : Known). k.view.debt) e;
   },
   ap (λ (k : Known). k.view.holds) e,

@@ -3,46 +3,33 @@ use Rattle.std.proofs.Common.{◌≡◌, ◌≢◌, ◌∙◌, ◌⊎◌, ◌+�
 use Rattle.snap_repair.specs.Answers.{Lowers}
 use Rattle.snap_repair.specs.Mending.{Looks, Mends, mended}
 use Rattle.snap_repair.specs.Raising.{Heightens, RaisesFor, TurnsNear}
-use Rattle.snap_rule.specs.Debt.{IsListed}
-use Rattle.snap_rule.specs.Debt.Lists.{or_else}
-use Rattle.snap_rule.specs.declared.debt.Mark.{Mark}
+use Rattle.snap_prelude.specs.{AimsAt, AimsByHeight, Among, Becomes, Birth, Field, Height}
+use Rattle.snap_prelude.specs.{heightened, IsKnown, IsListed, IsNoted, Key, Known, link_field}
+use Rattle.snap_prelude.specs.{listing, Mark, or_else, other, Side, Stamp, TurnsFor, View, word_in}
 use Rattle.snap_search.proofs.Working.{grows_same, no_notes}
 use Rattle.snap_shape.proofs.Touching.{One, Stays, stored}
 use Rattle.snap_shape.specs.Grips.{HasGrip, IsEdge, IsOfNow, edge_at, turn_at}
 use Rattle.snap_shape.specs.Shapes.{Rotates, later}
 use Rattle.snap_shape.specs.declared.grip.Grip.{Grip}
 use Rattle.snap_shape.specs.declared.grip.Turn.{Turn}
-use Rattle.snap_stamp.specs.Sides.{other}
-use Rattle.snap_stamp.specs.declared.layout.Field.{Field}
-use Rattle.snap_stamp.specs.declared.layout.Field.TheVariants.{Birth, Height, Key, Stamp}
-use Rattle.snap_stamp.specs.declared.side.Side.{Side}
-use Rattle.snap_stamp.specs.declared.side.Side.TheVariants as sides
-use Rattle.snap_steps.specs.Counting.{Among}
-use Rattle.snap_steps.specs.Facts.{IsKnown, word_in}
-use Rattle.snap_steps.specs.Seen.{Known, Becomes}
-use Rattle.snap_steps.specs.States.{link_field}
-use Rattle.snap_steps.specs.Steps.Changes.{AimsAt, TurnsFor}
-use Rattle.snap_steps.specs.Steps.Debts.{listing}
-use Rattle.snap_steps.specs.Steps.Settling.{AimsByHeight, IsNoted, heightened}
-use Rattle.snap_steps.specs.declared.view.View.{View}
 use Rattle.snap_repair.proofs.Mending.{keeps_holds, keeps_mends, mends_on, no_rows}
 
 abbrev known_as : Known → View → Known
 known_as k v = record { table = k.table; view = v }
 
 -- a step that stores one word of a held row, and may change the debt
-pub stored_mends : (b c : Known) (w : View) (P : ℕ → Field → Type 0) → Becomes b c w → known_as b w ≡ mended b w → w.doing ≡ b.view.doing → w.drawn ≡ b.view.drawn → w.own ≡ b.view.own → w.seen ≡ b.view.seen → w.notes ≡ b.view.notes → w.handed ≡ b.view.handed → w.epochs ≡ b.view.epochs → w.worn ≡ b.view.worn → w.lasting ≡ b.view.lasting → w.refused ≡ b.view.refused → Stays b c P → Mends b c
+pub stored_mends : (b c : Known) (w : View) (P : ℕ → Field → Type 0) → Becomes b c w → known_as b w ≡ mended b w → w.doing ≡ b.view.doing → w.drawn ≡ b.view.drawn → w.fresh.own ≡ b.view.fresh.own → w.seen ≡ b.view.seen → w.noted.notes ≡ b.view.noted.notes → w.noted.handed ≡ b.view.noted.handed → w.noted.epochs ≡ b.view.noted.epochs → w.noted.worn ≡ b.view.noted.worn → w.words.lasting ≡ b.view.words.lasting → w.words.refused ≡ b.view.words.refused → Stays b c P → Mends b c
 stored_mends b c w P e same doing drawn own seen notes handed epochs worn lasting refused s = record {
   is = e ∙ same ∙ ap (λ (k : Known). mended b k.view) (sym e);
   whole = ap (λ (k : Known). k.view.doing) e ∙ doing;
-  links = no_rows b.view c.view (ap (λ (k : Known). k.view.drawn) e ∙ drawn) (ap (λ (k : Known). k.view.own) e ∙ own);
+  links = no_rows b.view c.view (ap (λ (k : Known). k.view.drawn) e ∙ drawn) (ap (λ (k : Known). k.view.fresh.own) e ∙ own);
   more = [];
   found = λ h. h;
-  noted = no_notes b.view c.view (ap (λ (k : Known). k.view.notes) e ∙ notes) (ap (λ (k : Known). k.view.handed) e ∙ handed) (ap (λ (k : Known). k.view.epochs) e ∙ epochs) (λ h. ap (λ (k : Known). k.view.worn) e ∙ worn ∙ h);
+  noted = no_notes b.view c.view (ap (λ (k : Known). k.view.noted.notes) e ∙ notes) (ap (λ (k : Known). k.view.noted.handed) e ∙ handed) (ap (λ (k : Known). k.view.noted.epochs) e ∙ epochs) (λ h. ap (λ (k : Known). k.view.noted.worn) e ∙ worn ∙ h);
   reached = s.reached;
   present = λ n h. subst (Among n) (sym s.present) h;
-  lasting = λ q g y h. subst (λ l. IsKnown l q g y) (sym (ap (λ (k : Known). k.view.lasting) e ∙ lasting)) h;
-  refused = grows_same b.view.refused c.view.refused (ap (λ (k : Known). k.view.refused) e ∙ refused);
+  lasting = λ q g y h. subst (λ l. IsKnown l q g y) (sym (ap (λ (k : Known). k.view.words.lasting) e ∙ lasting)) h;
+  refused = grows_same b.view.words.refused c.view.words.refused (ap (λ (k : Known). k.view.words.refused) e ∙ refused);
 }
 
 pub listed_more : (m x n y : ℕ) (l : List Mark) → IsListed n y l → IsListed n y (listing m x l)
@@ -80,7 +67,7 @@ heightens a b c parent row h looks e =
       mends = mends_on a b c looks.0.mends (stored_mends b c (heightened b.view parent.row row.row row.key h) (One row.row Height) e refl refl refl refl refl refl refl refl refl refl refl s);
       holds = s.holds ∙ looks.1;
       knows = λ q f x ne k. s.knows q f x ne (looks.0.knows q f x (λ z. z) k);
-      listed = λ n x k. subst (λ (z : Known). IsListed n x z.view.debt.list) (sym e) (listed_more parent.row (word_in b.view.knows parent.row Stamp) n x b.view.debt.list (subst (λ u. IsListed n x u.list) (sym looks.0.debt) k));
+      listed = λ n x k. subst (λ (z : Known). IsListed n x z.view.debt.list) (sym e) (listed_more parent.row (word_in b.view.words.knows parent.row Stamp) n x b.view.debt.list (subst (λ u. IsListed n x u.list) (sym looks.0.debt) k));
       to_do = ap (λ (k : Known). k.view.debt.to_do) e ∙ ap (λ u. or_else u.to_do row.key) looks.0.debt;
     }
 
@@ -88,8 +75,8 @@ no_field : (q r : ℕ) (f : Field) → (f ≡ Height → ⊥) → (q ≡ r) × (
 no_field q r f ne z = ne z.1
 
 pub link_no_height : (d : Side) → link_field d ≢ Height
-link_no_height sides.Left = λ e. cc
-link_no_height sides.Right = λ e. cc
+link_no_height Side.Left = λ e. cc
+link_no_height Side.Right = λ e. cc
 
 -- what is known of a row stays known over a stored height
 pub grip_height : (a b : Known) (parent row g : Grip) → Heightens a b row → HasGrip a.view g → HasGrip b.view g

@@ -1,24 +1,13 @@
 -- What repairs answer, and why they may stop.
 use Rattle.std.specs.Prelude.{◌≡◌, ◌⊎◌, ◌+◌, ◌≤◌, ℕ, List, [], ◌∷◌, ◌++◌, Option, None, Some, true, false, Bool}
-use Rattle.snap_repair.specs.Lowering.{IsHigher, Leans, WantsCopy}
+use Rattle.snap_prelude.specs.{Among, Becomes, count_of, Fact, IsKnown, Known, last_count, Leans}
+use Rattle.snap_prelude.specs.{no_debt, Nothing, other, Side, Stamp, unlocked, View, Writing}
+use Rattle.snap_repair.specs.Lowering.{IsHigher, WantsCopy}
 use Rattle.snap_repair.specs.Mending.{Looks, Mends, MendsTo}
 use Rattle.snap_repair.specs.declared.answer.Repaired.{Repaired}
 use Rattle.snap_repair.specs.declared.answer.Repaired.TheVariants.{Done, RowsOut, StampOut}
-use Rattle.snap_rule.specs.Debt.{no_debt}
-use Rattle.snap_rule.specs.declared.change.Doing.TheVariants.{Nothing}
 use Rattle.snap_shape.specs.declared.grip.Turn.{Turn}
 use Rattle.snap_shape.specs.Grips.{Leads}
-use Rattle.snap_stamp.specs.Sides.{other}
-use Rattle.snap_stamp.specs.Stamps.{count_of, last_count}
-use Rattle.snap_stamp.specs.declared.layout.Field.TheVariants.{Stamp}
-use Rattle.snap_stamp.specs.declared.side.Side.{Side}
-use Rattle.snap_steps.specs.Counting.{Among}
-use Rattle.snap_steps.specs.Facts.{IsKnown}
-use Rattle.snap_steps.specs.Seen.{Known, Becomes}
-use Rattle.snap_steps.specs.Steps.Locks.{unlocked}
-use Rattle.snap_steps.specs.declared.view.Fact.{Fact}
-use Rattle.snap_steps.specs.declared.view.View.{View}
-use Rattle.snap_steps.specs.declared.view.Stage.TheVariants.{Writing}
 
 -- what a pass needs for repairs
 pub record IsMending (v : View) : Type 0 where
@@ -29,17 +18,22 @@ pub record IsMending (v : View) : Type 0 where
 pub record HasLastStamp (v : View) (row : ℕ) : Type 0 where
   pub held : Among row v.holds
   pub stamp : ℕ
-  pub found : IsKnown v.knows row Stamp stamp
+  pub found : IsKnown v.words.knows row Stamp stamp
   pub last : count_of stamp ≡ last_count
-  pub worn : v.worn ≡ true
+  pub worn : v.noted.worn ≡ true
 
--- the row is to be lowered: one of its sides is higher by two at least; or it is the child on such a side of another row, and its own other side is the higher one
+-- the row is to be lowered: one of its sides is higher by two at least; or it is the child on such
+-- a side of another row, and its own other side is the higher one
 abbrev pub IsToLower : View → ℕ → Type 0
-IsToLower v r = ((d : Side) × Leans v r d) ⊎ ((upper : ℕ) × (d : Side) × Leans v upper d × Leads v upper d r × IsHigher v r (other d))
+IsToLower v r = ((d : Side) × Leans v r d)
+    ⊎ ((upper : ℕ) × (d : Side) × Leans v upper d × Leads v upper d r × IsHigher v r (other d))
 
--- a load in this call found the row's stamp to be this one, at the greatest count: for it the pass was refused the row
+-- a load in this call found the row's stamp to be this one, at the greatest count: for it the pass
+-- was refused the row
 abbrev pub IsRefused : (old new : Known) → ℕ → ℕ → Type 0
-IsRefused old new row stamp = (more : List Fact) × (new.view.refused ≡ old.view.refused ++ more) × IsKnown more row Stamp stamp
+IsRefused old new row stamp = (more : List Fact)
+    × (new.view.words.refused ≡ old.view.words.refused ++ more)
+    × IsKnown more row Stamp stamp
 
 -- a look found the stamp of a held row at the greatest count
 pub record FindsWorn (old new : Known) (row : ℕ) : Type 0 where
@@ -56,16 +50,19 @@ freed (r ∷ rs) v = freed rs (unlocked v r)
 abbrev pub Frees : Known → Known → Type 0
 Frees old new = (rows : List ℕ) × Becomes old new (freed rows old.view)
 
--- at a moment of the pass a row has its own stamp at the greatest count, as a load of this call under its lock found, and is to be lowered by what the pass knew at that same moment. After it rows were freed, and no more
+-- at a moment of the pass a row has its own stamp at the greatest count, as a load of this call
+-- under its lock found, and is to be lowered by what the pass knew at that same moment. After it
+-- rows were freed, and no more
 pub record IsWornOut (old new moment : Known) (row : ℕ) : Type 0 where
   pub before : Mends old moment
   pub last : HasLastStamp moment.view row
   pub to_lower : IsToLower moment.view row
   pub noted : IsRefused old new row last.stamp
   pub after : Frees moment new
-  pub worn : new.view.worn ≡ true
+  pub worn : new.view.noted.worn ≡ true
 
--- at a moment of the pass a rotation wants a copy of a child of an earlier epoch, and a load of this call found that every row was handed out. After it rows were freed, and no more
+-- at a moment of the pass a rotation wants a copy of a child of an earlier epoch, and a load of
+-- this call found that every row was handed out. After it rows were freed, and no more
 pub record IsRowsOut (rows : ℕ) (old new moment : Known) (found : ℕ) : Type 0 where
   pub all : found ≡ rows
   pub before : MendsTo true old moment
@@ -73,14 +70,14 @@ pub record IsRowsOut (rows : ℕ) (old new moment : Known) (found : ℕ) : Type 
   pub side : Side
   pub wants : WantsCopy moment.view parent side
   pub after : Frees moment new
-  pub full : rows ≤ new.view.handed
+  pub full : rows ≤ new.view.noted.handed
 
 -- the row was lowered: the parent leads to the row that came up, and the row has the next count
 pub record Lowers (old new : Known) (t : Turn) : Type 0 where
   pub mends : Mends old new
   pub holds : new.view.holds ≡ old.view.holds
   pub above : Leads new.view t.parent.row t.parent_side t.raised.row
-  pub count : IsKnown new.view.knows t.row.row Stamp (t.row.stamp + 4)
+  pub count : IsKnown new.view.words.knows t.row.row Stamp (t.row.stamp + 4)
 
 -- so it was, or its stamp is at the greatest count
 abbrev pub Turns : Known → Known → Turn → Bool → Type 0
@@ -108,13 +105,20 @@ abbrev pub stops_full : Option Repaired → Bool
 stops_full None = false
 stops_full (Some why) = is_full why
 
+-- nothing is owed any more, and no row was freed
+pub record EndsRepair (old new : Known) : Type 0 where
+  pub mends : Mends old new
+  pub holds : new.view.holds ≡ old.view.holds
+  pub debt : new.view.debt ≡ no_debt
+
 -- a try of a repair
 pub record Tries (rows : ℕ) (old new : Known) (why : Option Repaired) : Type 0 where
   pub mends : MendsTo (stops_full why) old new
   pub holds : new.view.holds ≡ old.view.holds
   pub stops : Stops rows old new why
 
--- the pass owes nothing, or the answer says why it stopped. A load of this call found that every row was handed out where the answer says so, and only there
+-- the pass owes nothing, or the answer says why it stopped. A load of this call found that every
+-- row was handed out where the answer says so, and only there
 pub record Repairs (rows : ℕ) (old new : Known) (answer : Repaired) : Type 0 where
   pub mends : MendsTo (is_full answer) old new
   pub holds : new.view.holds ≡ old.view.holds

@@ -3,10 +3,7 @@ pub use Rattle.snap_copy.specs.Lowering.{LacksRows, OwnsLower, WantsCopy}
 pub use Rattle.snap_steps.specs.Steps.Tilts.{Leans, IsTilt}
 use Rattle.std.specs.Prelude.{◌≢◌, ◌<◌, ℕ}
 use Rattle.snap_shape.specs.Grips.{Leads}
-use Rattle.snap_stamp.specs.Sides.{other}
-use Rattle.snap_stamp.specs.declared.side.Side.{Side}
-use Rattle.snap_steps.specs.Steps.Settling.{HasHeight}
-use Rattle.snap_steps.specs.declared.view.View.{View}
+use Rattle.snap_prelude.specs.{HasHeight, other, Side, View}
 
 -- the held row has a child on the side
 abbrev pub HasChild : View → ℕ → Side → Type 0

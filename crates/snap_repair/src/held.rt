@@ -3,19 +3,15 @@ ghost use Rattle.std.specs.Prelude.{◌≡◌, ◌≢◌, ◌⊎◌, ◌≤◌, 
 ghost use Rattle.snap_repair.specs.Answers.{FindsWorn, IsMending};
 ghost use Rattle.snap_repair.specs.Looking.{EndsBelow, HasLook, LeadsPast};
 ghost use Rattle.snap_repair.specs.Mending.{Looks, Mends};
-ghost use Rattle.snap_search.specs.Endings.{EndsOn};
-ghost use Rattle.snap_search.specs.Work.{IsReached};
+ghost use Rattle.snap_repair.specs.Rising.{MayEndOn};
+ghost use Rattle.snap_search.specs.Prelude.{IsReached};
 ghost use Rattle.snap_shape.specs.Grips.{HasGrip, Leads};
-ghost use Rattle.snap_stamp.specs.Stamps.{count_of, last_count};
-ghost use Rattle.snap_stamp.specs.declared.side.Side.TheVariants.{Right};
-ghost use Rattle.snap_steps.specs.Counting.{Among};
-ghost use Rattle.snap_steps.specs.Seen.{IsOf};
-ghost use Rattle.snap_steps.specs.Steps.Settling.{HasHeight, MayAimAt};
+ghost use Rattle.snap_prelude.specs.{Among, count_of, HasHeight, IsOf, last_count, MayAimAt, Right};
 
 use crate::look::Look;
 use snap_locks::{lock, unlock};
 use snap_search::Ending;
-use snap_shape::{Grip, child_of, link_of};
+use snap_shape::{Grip, child_of};
 use snap_stamp::{Field, Key, RowNo, Side, Stamp};
 use snap_steps::{Pass, Rows, aim, load_birth, load_epoch, load_height, load_key, load_word};
 use std::sync::Wait;
@@ -28,7 +24,8 @@ pub fn grip_of(rows: &Rows, pass: &mut Pass, row: RowNo) -> Option<Grip>
     requires held { Among row pass.old.view.holds }
     requires reached { IsReached pass.old.view row }
     ensures looks { Looks pass.old pass.new }
-    ensures grip { MatchOption result (Looks pass.old pass.new) (λ g. (g.row ≡ row) × HasGrip pass.new.view g) }
+    ensures grip { MatchOption result (Looks pass.old pass.new)
+        (λ g. (g.row ≡ row) × HasGrip pass.new.view g) }
 {
     let epoch = load_epoch(rows, pass);
     let birth = load_word(rows, pass, row, Field::Birth);
@@ -53,7 +50,7 @@ pub fn leads_to(rows: &Rows, pass: &mut Pass, parent: &Grip, side: Side, row: Ro
     ensures leads { IsTrue result → Leads pass.new.view parent.now.row side row }
     ensures another { result ≡ false → LeadsPast pass.new.view parent.now.row side row }
 {
-    load_word(rows, pass, parent.row, link_of(side)) == row.number() as u64
+    load_word(rows, pass, parent.row, side.link()) == row.number() as u64
 }
 
 /// Whether the to-do key may come to be the row's: it is, or the row is still the last of this epoch on its way.
@@ -61,7 +58,7 @@ pub fn may_aim(rows: &Rows, pass: &mut Pass, key: Key, spot: &Ending, row: &Grip
     requires table { IsOf pass.old rows.now }
     requires mending { IsMending pass.old.view }
     requires to_do { pass.old.view.debt.to_do ≡ Some key }
-    requires ends { EndsOn rows.now.rows pass.old.view key spot.now }
+    requires ends { MayEndOn rows.now.rows pass.old.view key spot.now }
     requires row { (row.now.row ≡ spot.now.row) × (row.now.row ≢ 0) }
     requires grip { HasGrip pass.old.view row.now }
     ensures looks { Looks pass.old pass.new }
@@ -102,7 +99,7 @@ pub fn end_at_top<R: Wait>(rows: &Rows, rt: &R, pass: &mut Pass, key: Key, spot:
     requires mending { IsMending pass.old.view }
     requires free { pass.old.view.holds ≡ [] }
     requires to_do { pass.old.view.debt.to_do ≡ Some key }
-    requires ends { EndsOn rows.now.rows pass.old.view key spot.now }
+    requires ends { MayEndOn rows.now.rows pass.old.view key spot.now }
     requires row { spot.now.row ≡ 0 }
     ensures { Mends pass.old pass.new × (pass.new.view.holds ≡ pass.old.view.holds) }
 {
@@ -117,7 +114,7 @@ fn at_top(rows: &Rows, pass: &mut Pass, key: Key, spot: &Ending)
     requires mending { IsMending pass.old.view }
     requires held { pass.old.view.holds ≡ spot.now.row ∷ [] }
     requires to_do { pass.old.view.debt.to_do ≡ Some key }
-    requires ends { EndsOn rows.now.rows pass.old.view key spot.now }
+    requires ends { MayEndOn rows.now.rows pass.old.view key spot.now }
     requires row { spot.now.row ≡ 0 }
     ensures { Mends pass.old pass.new × (pass.new.view.holds ≡ pass.old.view.holds) }
 {
@@ -191,7 +188,8 @@ pub fn is_worn_out(rows: &Rows, pass: &mut Pass, row: &Grip) -> bool
     requires row { row.now.row ≤ rows.now.rows }
     requires grip { HasGrip pass.old.view row.now }
     ensures looks { Looks pass.old pass.new }
-    ensures worn { MatchBool result (FindsWorn pass.old pass.new row.now.row) (count_of row.now.stamp < last_count) }
+    ensures worn { MatchBool result (FindsWorn pass.old pass.new row.now.row)
+        (count_of row.now.stamp < last_count) }
 {
     let stamp = load_word(rows, pass, row.row, Field::Stamp);
     Stamp::of(stamp).is_last()

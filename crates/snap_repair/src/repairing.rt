@@ -4,15 +4,17 @@
 //! locks above it alone.
 ghost use Rattle.std.specs.Prelude.{◌≡◌, ◌≢◌, ◌≤◌, [], ◌∷◌, Some, None};
 ghost use Rattle.snap_repair.specs.Answers.{IsMending, Repairs, Tries};
-ghost use Rattle.snap_search.specs.Endings.{EndsOn};
+ghost use Rattle.snap_repair.specs.Rising.{MayEndOn};
+ghost use Rattle.snap_search.specs.Prelude.{IsWay};
 ghost use Rattle.snap_shape.specs.Grips.{HasGrip, Leads};
-ghost use Rattle.snap_steps.specs.Seen.{IsOf};
+ghost use Rattle.snap_prelude.specs.{IsOf};
 
 use crate::answer::Repaired;
 use crate::held::{end_at_top, grip_of, leads_to, may_aim};
+use crate::rising::{check_way, next_row};
 use crate::settling::settle;
 use snap_locks::{lock, unlock};
-use snap_search::{Ending, find_to_repair};
+use snap_search::{Ending, Way};
 use snap_shape::{Edge, Grip};
 use snap_stamp::Key;
 use snap_steps::{Pass, Rows, aim};
@@ -21,39 +23,52 @@ use std::sync::Wait;
 /// Repairs what the pass owes. `Done`: it owes nothing. Else it says why rows are left unsettled, for good: `RowsOut`
 /// exactly where a copy of this call found that every row was handed out, and `StampOut` where this call found the stamp
 /// of a row that it held, and was to lower, at the greatest count. No entry is made, each row that was drawn is linked,
-/// and no row is held afterwards.
-pub fn repair<R: Wait>(rows: &Rows, rt: &R, pass: &mut Pass) -> Repaired
+/// and no row is held afterwards. It begins at the lowest row that `way` keeps, where that has the to-do key, as it has
+/// behind the write that kept it.
+pub fn repair<R: Wait>(rows: &Rows, rt: &R, pass: &mut Pass, way: &mut Way) -> Repaired
     requires table { IsOf pass.old rows.now }
     requires mending { IsMending pass.old.view }
     requires free { pass.old.view.holds ≡ [] }
+    requires way { IsWay rows.now.rows pass.old.view way.old }
     ensures { Repairs rows.now.rows pass.old pass.new result }
 {
     for _ in rt.forever() {
         let Some(key) = pass.to_do() else {
             return Repaired::Done;
         };
-        if let Some(why) = try_repair(rows, rt, pass, key) {
+        if let Some(why) = try_repair(rows, rt, pass, key, way) {
             return why;
         }
     }
     unreachable!()
 }
 
-// One turn: the last row of this epoch on the way of the to-do key is repaired, or the way is looked for again.
-fn try_repair<R: Wait>(rows: &Rows, rt: &R, pass: &mut Pass, key: Key) -> Option<Repaired>
+// One turn: the last row of this epoch on the way of the to-do key is repaired, or it is looked for again.
+fn try_repair<R: Wait>(
+    rows: &Rows,
+    rt: &R,
+    pass: &mut Pass,
+    key: Key,
+    way: &mut Way,
+) -> Option<Repaired>
     requires table { IsOf pass.old rows.now }
     requires mending { IsMending pass.old.view }
     requires free { pass.old.view.holds ≡ [] }
     requires to_do { pass.old.view.debt.to_do ≡ Some key }
-    ensures { Tries rows.now.rows pass.old pass.new result }
+    requires way { IsWay rows.now.rows pass.old.view way.old }
+    ensures tries { Tries rows.now.rows pass.old pass.new result }
+    ensures way { IsWay rows.now.rows pass.new.view way.new }
 {
-    let spot = find_to_repair(rows, rt, pass, key);
+    let spot = next_row(rows, rt, pass, key, way);
     let row = spot.row;
     if row.is_none() {
         end_at_top(rows, rt, pass, key, &spot);
         return None;
     }
-    take_rows(rows, rt, pass, key, &spot)
+    let why = take_rows(rows, rt, pass, key, &spot);
+    let still = pass.to_do() == Some(key);
+    check_way(way, still);
+    why
 }
 
 // Locks the row above, and the row where that leads to it.
@@ -68,7 +83,7 @@ fn take_rows<R: Wait>(
     requires mending { IsMending pass.old.view }
     requires free { pass.old.view.holds ≡ [] }
     requires to_do { pass.old.view.debt.to_do ≡ Some key }
-    requires ends { EndsOn rows.now.rows pass.old.view key spot.now }
+    requires ends { MayEndOn rows.now.rows pass.old.view key spot.now }
     requires row { spot.now.row ≢ 0 }
     ensures { Tries rows.now.rows pass.old pass.new result }
 {
@@ -90,7 +105,7 @@ fn at_parent<R: Wait>(
     requires mending { IsMending pass.old.view }
     requires held { pass.old.view.holds ≡ spot.now.above ∷ [] }
     requires to_do { pass.old.view.debt.to_do ≡ Some key }
-    requires ends { EndsOn rows.now.rows pass.old.view key spot.now }
+    requires ends { MayEndOn rows.now.rows pass.old.view key spot.now }
     requires row { spot.now.row ≢ 0 }
     ensures { Tries rows.now.rows pass.old pass.new result }
 {
@@ -122,9 +137,10 @@ fn at_row<R: Wait>(
     requires mending { IsMending pass.old.view }
     requires held { pass.old.view.holds ≡ spot.now.row ∷ spot.now.above ∷ [] }
     requires to_do { pass.old.view.debt.to_do ≡ Some key }
-    requires ends { EndsOn rows.now.rows pass.old.view key spot.now }
+    requires ends { MayEndOn rows.now.rows pass.old.view key spot.now }
     requires row { (spot.now.row ≢ 0) × (spot.now.row ≢ spot.now.above) }
-    requires parent { (parent.now.row ≡ spot.now.above) × HasGrip pass.old.view parent.now × Leads pass.old.view spot.now.above spot.now.above_side spot.now.row }
+    requires parent { (parent.now.row ≡ spot.now.above) × HasGrip pass.old.view parent.now
+        × Leads pass.old.view spot.now.above spot.now.above_side spot.now.row }
     ensures { Tries rows.now.rows pass.old pass.new result }
 {
     let (number, side) = (spot.row, spot.above_side);

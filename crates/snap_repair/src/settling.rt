@@ -4,10 +4,10 @@ ghost use Rattle.snap_repair.specs.Answers.{IsMending, Tries};
 ghost use Rattle.snap_repair.specs.Looking.{HasLook, IsEven, Routes};
 ghost use Rattle.snap_repair.specs.Raising.{Heightens, Lifts, RaisesFor, SetsRight};
 ghost use Rattle.snap_shape.specs.Grips.{IsEdge, IsWithin};
-ghost use Rattle.snap_steps.specs.Seen.{IsOf};
-ghost use Rattle.snap_steps.specs.Steps.Debts.{key_at};
+ghost use Rattle.snap_prelude.specs.{IsOf, key_at};
 
 use crate::answer::Repaired;
+use crate::ending::{end_repair, may_end};
 use crate::held::look_at;
 use crate::look::{Look, height_due, is_routing, lean, only_child};
 use crate::tilting::tilt;
@@ -16,7 +16,7 @@ use snap_steps::{Pass, Rows, pass_up, store_height};
 use std::sync::Wait;
 
 /// Does at a held row, whose key is the to-do key, what its words ask for: a routing row leaves its tree, a row that
-/// leans is turned, and any other gets its right height.
+/// leans is turned, and any other gets its right height. At a settled row beside which nothing is owed the repair ends.
 pub fn settle<R: Wait>(rows: &Rows, rt: &R, pass: &mut Pass, edge: &Edge) -> Option<Repaired>
     requires table { IsOf pass.old rows.now }
     requires mending { IsMending pass.old.view }
@@ -35,6 +35,10 @@ pub fn settle<R: Wait>(rows: &Rows, rt: &R, pass: &mut Pass, edge: &Edge) -> Opt
     }
     if let Some(higher) = lean(&look) {
         return tilt(rows, rt, pass, edge, higher);
+    }
+    if may_end(pass, &row, &look) {
+        end_repair(rows, pass, &row);
+        return None;
     }
     lift(rows, pass, edge, &look);
     None

@@ -3,14 +3,11 @@
 //! A row is locked only while the row above it is held, so locks are taken downwards alone.
 ghost use Rattle.std.specs.Prelude.{◌≡◌, ◌≢◌, ◌<◌, ◌≤◌, [], ◌∷◌, Some, IsTrue, MatchOption};
 ghost use Rattle.snap_repair.specs.Answers.{IsMending, IsWornOut, Lowers, Tries, Turns};
-ghost use Rattle.snap_repair.specs.Lowering.{HasChild, IsHigher, Leans};
+ghost use Rattle.snap_prelude.specs.{Among, count_of, IsOf, last_count, Leans, other};
+ghost use Rattle.snap_repair.specs.Lowering.{HasChild, IsHigher};
 ghost use Rattle.snap_repair.specs.Mending.{Looks};
 ghost use Rattle.snap_repair.specs.Raising.{Lifts, TurnsNear};
 ghost use Rattle.snap_shape.specs.Grips.{AreWithin, IsEdge, IsTurning, IsWithin, Leads, edge_at};
-ghost use Rattle.snap_stamp.specs.Sides.{other};
-ghost use Rattle.snap_stamp.specs.Stamps.{count_of, last_count};
-ghost use Rattle.snap_steps.specs.Counting.{Among};
-ghost use Rattle.snap_steps.specs.Seen.{IsOf};
 
 use crate::answer::Repaired;
 use crate::held::{grip_of, is_worn_out, look_at};
@@ -75,7 +72,8 @@ fn at_child<R: Wait>(
     requires rows { IsWithin rows.now.rows edge.now × (child ≤ rows.now.rows) }
     requires edge { IsEdge pass.old.view edge.now }
     requires three { pass.old.view.holds ≡ child ∷ edge.now.child.row ∷ edge.now.parent.row ∷ [] }
-    requires child { (child ≢ 0) × (child ≢ edge.now.child.row) × (child ≢ edge.now.parent.row) × Among child pass.old.view.reached }
+    requires child { (child ≢ 0) × (child ≢ edge.now.child.row) × (child ≢ edge.now.parent.row)
+        × Among child pass.old.view.trail.reached }
     requires leads { Leads pass.old.view edge.now.child.row higher child }
     requires leans { Leans pass.old.view edge.now.child.row higher }
     requires to_do { pass.old.view.debt.to_do ≡ Some edge.now.child.key }
@@ -113,9 +111,11 @@ fn tilt_inner<R: Wait>(rows: &Rows, rt: &R, pass: &mut Pass, turn: &Turn) -> Opt
     requires mending { IsMending pass.old.view }
     requires rows { AreWithin rows.now.rows turn.now }
     requires turn { IsTurning pass.old.view turn.now }
-    requires three { pass.old.view.holds ≡ turn.now.raised.row ∷ turn.now.row.row ∷ turn.now.parent.row ∷ [] }
+    requires three { pass.old.view.holds
+        ≡ turn.now.raised.row ∷ turn.now.row.row ∷ turn.now.parent.row ∷ [] }
     requires leans { Leans pass.old.view turn.now.row.row turn.now.side }
-    requires inner { IsHigher pass.old.view turn.now.raised.row (other turn.now.side) × HasChild pass.old.view turn.now.raised.row (other turn.now.side) }
+    requires inner { IsHigher pass.old.view turn.now.raised.row (other turn.now.side)
+        × HasChild pass.old.view turn.now.raised.row (other turn.now.side) }
     requires to_do { pass.old.view.debt.to_do ≡ Some turn.now.row.key }
     ensures { Tries rows.now.rows pass.old pass.new result }
 {
@@ -148,7 +148,8 @@ fn at_inner(rows: &Rows, pass: &mut Pass, turn: &Turn, inner: RowNo) -> Option<R
     requires held { Among inner pass.old.view.holds }
     requires leans { Leans pass.old.view turn.now.row.row turn.now.side }
     requires higher { IsHigher pass.old.view turn.now.raised.row (other turn.now.side) }
-    requires inner { (inner ≢ 0) × (inner ≢ turn.now.raised.row) × (inner ≢ turn.now.row.row) × (inner ≢ turn.now.parent.row) × Among inner pass.old.view.reached }
+    requires inner { (inner ≢ 0) × (inner ≢ turn.now.raised.row) × (inner ≢ turn.now.row.row)
+        × (inner ≢ turn.now.parent.row) × Among inner pass.old.view.trail.reached }
     requires leads { Leads pass.old.view turn.now.raised.row (other turn.now.side) inner }
     requires to_do { pass.old.view.debt.to_do ≡ Some turn.now.row.key }
     ensures { Tries rows.now.rows pass.old pass.new result }
@@ -173,7 +174,8 @@ fn turn_twice(rows: &Rows, pass: &mut Pass, turn: &Turn, raised: &Grip) -> Optio
     requires mending { IsMending pass.old.view }
     requires rows { AreWithin rows.now.rows turn.now × (raised.now.row ≤ rows.now.rows) }
     requires turn { IsTurning pass.old.view turn.now }
-    requires inner { IsEdge pass.old.view (edge_at turn.now.raised (other turn.now.side) raised.now) }
+    requires inner { IsEdge pass.old.view
+        (edge_at turn.now.raised (other turn.now.side) raised.now) }
     requires apart { (turn.now.row.row ≢ raised.now.row) × (turn.now.parent.row ≢ raised.now.row) }
     requires leans { Leans pass.old.view turn.now.row.row turn.now.side }
     requires higher { IsHigher pass.old.view turn.now.raised.row (other turn.now.side) }
@@ -221,7 +223,9 @@ fn worn_row(rows: &Rows, pass: &mut Pass, turn: &Turn) -> Option<RowNo>
     requires leans { Leans pass.old.view turn.now.row.row turn.now.side }
     requires higher { IsHigher pass.old.view turn.now.raised.row (other turn.now.side) }
     ensures looks { Looks pass.old pass.new }
-    ensures worn { MatchOption result ((count_of turn.now.raised.stamp < last_count) × (count_of turn.now.row.stamp < last_count)) (λ r. IsWornOut pass.old pass.new pass.new r) }
+    ensures worn { MatchOption result
+        ((count_of turn.now.raised.stamp < last_count) × (count_of turn.now.row.stamp < last_count))
+        (λ r. IsWornOut pass.old pass.new pass.new r) }
 {
     let (row, lower) = (turn.row, turn.raised);
     if is_worn_out(rows, pass, &lower) {
@@ -266,7 +270,8 @@ fn turn_row(rows: &Rows, pass: &mut Pass, turn: &Turn, key: Key) -> bool
     requires mending { IsMending pass.old.view }
     requires rows { AreWithin rows.now.rows turn.now }
     requires turn { IsTurning pass.old.view turn.now }
-    requires aims { TurnsNear pass.old.view turn.now.parent.row turn.now.row.row turn.now.raised.row key }
+    requires aims { TurnsNear pass.old.view turn.now.parent.row turn.now.row.row
+        turn.now.raised.row key }
     ensures { Turns pass.old pass.new turn.now result }
 {
     let row = turn.row;
@@ -283,7 +288,8 @@ fn lower_row(rows: &Rows, pass: &mut Pass, turn: &Turn, key: Key)
     requires mending { IsMending pass.old.view }
     requires rows { AreWithin rows.now.rows turn.now }
     requires turn { IsTurning pass.old.view turn.now }
-    requires aims { TurnsNear pass.old.view turn.now.parent.row turn.now.row.row turn.now.raised.row key }
+    requires aims { TurnsNear pass.old.view turn.now.parent.row turn.now.row.row
+        turn.now.raised.row key }
     requires count { count_of turn.now.row.stamp < last_count }
     ensures { Lowers pass.old pass.new turn.now }
 {

@@ -1,26 +1,13 @@
 -- What an unlinking and a rotation leave of what their pass knows.
 use Rattle.std.proofs.Common.{◌≡◌, ◌≢◌, ◌∙◌, ◌⊎◌, ◌+◌, inl, inr, ℕ, zero, suc, List, [], ◌∷◌, ◌++◌, cond, refl, sym, ap, subst, arith, ⊎_elim, Bool, ◌||◌}
-use Rattle.snap_rule.specs.Debt.{IsListed}
-use Rattle.snap_rule.specs.declared.debt.Mark.{Mark}
+use Rattle.snap_prelude.specs.{aimed_at, AimsAt, Among, Becomes, Birth, cleared, Fact}
+use Rattle.snap_prelude.specs.{fact, Field, HasStamps, is_last, IsBorn, IsKnown, IsListed}
+use Rattle.snap_prelude.specs.{IsPair, IsTurn, Key, key_at, Known, KnowsReason, lifted}
+use Rattle.snap_prelude.specs.{link_field, listing, lowered, Mark, other, read, shrunk}
+use Rattle.snap_prelude.specs.{Side, spliced, Stamp, turned, TurnsFor, unlinked, View}
 use Rattle.snap_shape.specs.Grips.{HasGrip, IsEdge, IsOfNow, edge_at, turn_at}
 use Rattle.snap_shape.specs.Shapes.{Rotates, Unlinks, shaped}
 use Rattle.snap_shape.specs.declared.grip.Grip.{Grip}
-use Rattle.snap_stamp.specs.Sides.{other}
-use Rattle.snap_stamp.specs.declared.layout.Field.{Field}
-use Rattle.snap_stamp.specs.declared.layout.Field.TheVariants.{Birth, Key, Stamp}
-use Rattle.snap_stamp.specs.declared.side.Side.{Side}
-use Rattle.snap_stamp.specs.declared.side.Side.TheVariants as sides
-use Rattle.snap_steps.specs.Counting.{Among}
-use Rattle.snap_steps.specs.Facts.{IsBorn, IsKnown, fact}
-use Rattle.snap_steps.specs.Seen.{Known, Becomes}
-use Rattle.snap_steps.specs.States.{link_field}
-use Rattle.snap_steps.specs.Steps.Changes.{AimsAt, IsTurn, TurnsFor, shrunk}
-use Rattle.snap_steps.specs.Steps.Debts.{KnowsReason, aimed_at, key_at, listing}
-use Rattle.snap_steps.specs.Steps.Fields.{read, is_last}
-use Rattle.snap_steps.specs.Steps.Rotating.{HasStamps, cleared, lifted, lowered, turned}
-use Rattle.snap_steps.specs.Steps.Unlinking.{IsPair, spliced, unlinked}
-use Rattle.snap_steps.specs.declared.view.Fact.{Fact}
-use Rattle.snap_steps.specs.declared.view.View.{View}
 use Rattle.snap_shape.proofs.Touching.{None, One, Stays, grip_stays, link_no_birth, link_no_key, link_no_stamp, loaded, loaded_here, stays_on, stored, stored_here}
 
 abbrev known_as : Known → View → Known
@@ -28,8 +15,8 @@ known_as k v = record { table = k.table; view = v }
 
 -- a link is no stamp
 no_refusal : (l : List Fact) (d : Side) (r x : ℕ) → cond (is_last (link_field d) x) (l ++ fact r (link_field d) x ∷ []) l ≡ l
-no_refusal l sides.Left r x = refl
-no_refusal l sides.Right r x = refl
+no_refusal l Side.Left r x = refl
+no_refusal l Side.Right r x = refl
 
 -- what a grip tells of a row but 0
 pub born : (v : View) (g : Grip) → HasGrip v g → IsOfNow v g.row → IsBorn v g.row
@@ -38,7 +25,7 @@ born v g h o = record { birth = o.birth; is_birth = o.is_birth; now = o.now; sta
 pub own_row : (v : View) (g : Grip) → g.row ≢ 0 → HasGrip v g → IsOfNow v g.row
 own_row v g nz h = ⊎_elim (λ z. absurd (nz z)) (λ o. o) h.own
 
-upper_is : (v : View) (g : Grip) (d : Side) → HasGrip v g → (g.row ≡ 0 → d ≡ sides.Right) → ((g.row ≡ 0) × (d ≡ sides.Right)) ⊎ ((Among g.row v.reached) × IsBorn v g.row)
+upper_is : (v : View) (g : Grip) (d : Side) → HasGrip v g → (g.row ≡ 0 → d ≡ Side.Right) → ((g.row ≡ 0) × (d ≡ Side.Right)) ⊎ ((Among g.row v.trail.reached) × IsBorn v g.row)
 upper_is v g d h right = ⊎_elim (λ z. inl (z, right z)) (λ o. inr (o.reached, born v g h o)) h.own
 
 pub pair_of : (v : View) (upper lower : Grip) (d : Side) → IsEdge v (edge_at upper d lower) → IsPair v upper.row d lower.row
@@ -95,8 +82,8 @@ unlinks a b c parent row d only e f =
         is = shaped_by a c (known_as a (spliced (unlinked a.view parent.row d row.row only parent.key (row.stamp + 1)) parent.row d only)) (f ∙ ap (λ (k : Known). known_as k (spliced k.view parent.row d only)) e) refl;
         reached = s.reached;
         whole = ap (λ (k : Known). k.view.doing) f;
-        worn = λ h. ap (λ (k : Known). k.view.worn) f ∙ ap (λ (k : Known). k.view.worn) e ∙ h;
-        refused = ap (λ (k : Known). k.view.refused) f ∙ ap (λ (k : Known). k.view.refused) e;
+        worn = λ h. ap (λ (k : Known). k.view.noted.worn) f ∙ ap (λ (k : Known). k.view.noted.worn) e ∙ h;
+        refused = ap (λ (k : Known). k.view.words.refused) f ∙ ap (λ (k : Known). k.view.words.refused) e;
         others = λ q g x n1 n2 n3 h. s.knows q g x (λ z. ⊎_elim (λ t. n2 t.0) (λ t. n1 t.0) z) h;
         grips = λ g ne h. grip_stays a c (λ q i. One row.row Stamp q i ⊎ One parent.row (link_field d) q i) g s
             (λ z. ⊎_elim (λ t. let q : Key ≡ Stamp = t.1 in cc) (λ t. link_no_key d (sym t.1)) z) (λ z. ⊎_elim (λ t. ne t.0) (λ t. link_no_stamp d (sym t.1)) z) (λ z. ⊎_elim (λ t. let q : Birth ≡ Stamp = t.1 in cc) (λ t. link_no_birth d (sym t.1)) z) h;
@@ -175,13 +162,13 @@ module _ (a b c d e f g : Known) (parent : Grip) (p : Side) (row : Grip) (side :
   no_stamp q ne h = elim h [ inl x ↦ ne x.0 | inr y ↦ elim y [ inl x ↦ link_no_stamp side (sym x.1) | inr z ↦ elim z [ inl x ↦ link_no_stamp (other side) (sym x.1) | inr x ↦ link_no_stamp p (sym x.1) ] ] ]
 
   -- what the steps on the way need
-  pub middle_known : raised.row ≢ row.row → Among raised.row a.view.holds → IsKnown c.view.knows raised.row (link_field (other side)) middle
+  pub middle_known : raised.row ≢ row.row → Among raised.row a.view.holds → IsKnown c.view.words.knows raised.row (link_field (other side)) middle
   middle_known ne held = b_to_c.knows raised.row (link_field (other side)) middle (λ z. ne z.0) (loaded_here a b raised.row (link_field (other side)) middle held t.load)
 
-  pub key_known : HasGrip a.view row → IsKnown e.view.knows row.row Key row.key
+  pub key_known : HasGrip a.view row → IsKnown e.view.words.knows row.row Key row.key
   key_known h = to_e.knows row.row Key row.key (no_key row.row) h.is_key
 
-  marked_stamp : IsKnown e.view.knows row.row Stamp (row.stamp + 2)
+  marked_stamp : IsKnown e.view.words.knows row.row Stamp (row.stamp + 2)
   marked_stamp =
       let here = stored_here b c (shrunk b.view parent.row p row.row side raised.row (row.stamp + 2) key) row.row Stamp (row.stamp + 2) t.mark refl in
       d_to_e.knows row.row Stamp (row.stamp + 2) (λ z. link_no_stamp (other side) (sym z.1)) (c_to_d.knows row.row Stamp (row.stamp + 2) (λ z. link_no_stamp side (sym z.1)) here)
@@ -193,10 +180,10 @@ module _ (a b c d e f g : Known) (parent : Grip) (p : Side) (row : Grip) (side :
     (raised.stamp, to_e.knows raised.row Stamp raised.stamp (no_stamp raised.row n2) below.is_stamp),
   )
 
-  pub stamp_known : IsKnown f.view.knows row.row Stamp (row.stamp + 2)
+  pub stamp_known : IsKnown f.view.words.knows row.row Stamp (row.stamp + 2)
   stamp_known = e_to_f.knows row.row Stamp (row.stamp + 2) (λ z. link_no_stamp p (sym z.1)) marked_stamp
 
-  pub rotates : IsEdge a.view (edge_at parent p row) → IsEdge a.view (edge_at row side raised) → parent.row ≢ raised.row → ((x : ℕ) → parent.row ≢ 0 → IsKnown e.view.knows parent.row Stamp x → IsListed parent.row x f.view.debt.list) → Rotates a g (turn_at parent p row side raised)
+  pub rotates : IsEdge a.view (edge_at parent p row) → IsEdge a.view (edge_at row side raised) → parent.row ≢ raised.row → ((x : ℕ) → parent.row ≢ 0 → IsKnown e.view.words.knows parent.row Stamp x → IsListed parent.row x f.view.debt.list) → Rotates a g (turn_at parent p row side raised)
   rotates upper lower apart listed =
       let step : Known → Known = λ (k : Known). known_as k (read k.view raised.row (link_field (other side)) middle) in
       let is1 : b ≡ known_as a (read a.view raised.row (link_field (other side)) middle) = t.load in
@@ -215,15 +202,15 @@ module _ (a b c d e f g : Known) (parent : Grip) (p : Side) (row : Grip) (side :
           is = shaped_by a g (known_as a v6) is6 refl;
           reached = to_g.reached;
           whole = ap (λ (k : Known). k.view.doing) t.clear;
-          worn = λ h. ap (λ (k : Known). k.view.worn) is6 ∙ ap (λ (z : Bool). z || is_last (link_field (other side)) middle) h;
-          refused = ap (λ (k : Known). k.view.refused) is6 ∙ no_refusal a.view.refused (other side) raised.row middle;
+          worn = λ h. ap (λ (k : Known). k.view.noted.worn) is6 ∙ ap (λ (z : Bool). z || is_last (link_field (other side)) middle) h;
+          refused = ap (λ (k : Known). k.view.words.refused) is6 ∙ no_refusal a.view.words.refused (other side) raised.row middle;
           others = λ q i x n1 n2 n3 h. to_g.knows q i x (λ z. elim z [ inl y ↦ n2 y.0 | inr y ↦ elim y [ inl w ↦ n2 w.0 | inr w ↦ elim w [ inl u ↦ n3 u.0 | inr u ↦ n1 u.0 ] ] ]) h;
           grips = grip;
         };
         lowered = record {
           held = subst (Among row.row) (sym to_g.holds) row_grip.held;
           is_key = to_g.knows row.row Key row.key (no_key row.row) row_grip.is_key;
-          is_stamp = subst (IsKnown g.view.knows row.row Stamp) more (stored_here f g (cleared f.view row.row (row.stamp + 2 + 2)) row.row Stamp (row.stamp + 2 + 2) t.clear refl);
+          is_stamp = subst (IsKnown g.view.words.knows row.row Stamp) more (stored_here f g (cleared f.view row.row (row.stamp + 2 + 2)) row.row Stamp (row.stamp + 2 + 2) t.clear refl);
           unmarked = omega (arith, clean);
           own = inr (record { reached = omega (arith, row_own.reached, to_g.reached row.row); birth = row_own.birth; is_birth = to_g.knows row.row Birth row_own.birth (no_birth row.row) row_own.is_birth; now = subst (Among row_own.birth) (sym to_g.present) row_own.now });
         };
@@ -244,7 +231,7 @@ turns_still a b parent row raised key r f x e h = subst (λ (k : Known). TurnsFo
     w : View
     w = read a.view r f x
 
-    knows : (q : ℕ) (y : ℕ) → IsKnown a.view.knows q Key y → IsKnown w.knows q Key y
+    knows : (q : ℕ) (y : ℕ) → IsKnown a.view.words.knows q Key y → IsKnown w.words.knows q Key y
     knows q y k = let s = loaded a (known_as a w) r f x refl in s.knows q Key y (λ z. z) k
 
     why : KnowsReason a.view → KnowsReason w
@@ -264,7 +251,7 @@ by_side a b raised d e x same h = subst (λ (s : Side). Becomes a b (read a.view
 
 -- the row's key is known before the tree turns
 pub key_on : (a b c d e : Known) (parent : Grip) (p : Side) (row : Grip) (side : Side) (raised : Grip) (middle key : ℕ) → Becomes a b (read a.view raised.row (link_field (other side)) middle) → Becomes b c (shrunk b.view parent.row p row.row side raised.row (row.stamp + 2) key)
-    → Becomes c d (lowered c.view parent.row p row.row side raised.row middle) → Becomes d e (lifted d.view parent.row p row.row side raised.row) → HasGrip a.view row → IsKnown e.view.knows row.row Key row.key
+    → Becomes c d (lowered c.view parent.row p row.row side raised.row middle) → Becomes d e (lifted d.view parent.row p row.row side raised.row) → HasGrip a.view row → IsKnown e.view.words.knows row.row Key row.key
 key_on a b c d e parent p row side raised middle key load mark lower lift h =
     key_known a b c d e (known_as e (turned e.view parent.row p row.row raised.row row.key)) (known_as e (cleared (turned e.view parent.row p row.row raised.row row.key) row.row (row.stamp + 2 + 2))) parent p row side raised middle key
     (record { load = load; mark = mark; lower = lower; lift = lift; raise = refl; clear = refl }) h

@@ -1,28 +1,18 @@
 -- Steps by which a pass comes to know another word of one field, and knows all else as before.
 use Rattle.std.proofs.Common.{◌≡◌, ◌≢◌, ◌≤◌, ◌∙◌, ◌⊎◌, ◌==◌, ◌&&◌, inl, inr, ℕ, List, [], ◌∷◌, Bool, true, false, cond, refl, sym, ap, subst, arith, nat_lt, eqb-true, lt-ltb}
-use Rattle.snap_stamp.specs.Layout.{place_of}
-use Rattle.snap_stamp.specs.declared.layout.Field.{Field}
-use Rattle.snap_stamp.specs.declared.layout.Field.TheVariants.{Birth, Key, Stamp}
-use Rattle.snap_stamp.specs.declared.side.Side.{Side}
-use Rattle.snap_stamp.specs.declared.side.Side.TheVariants as sides
+use Rattle.snap_prelude.specs.{Among, Becomes, Birth, Fact, fact, Field, forgotten}
+use Rattle.snap_prelude.specs.{IsKnown, Key, Known, led_to, link_field, place_of}
+use Rattle.snap_prelude.specs.{read, same_field, Side, Stamp, times, View}
 use Rattle.snap_shape.specs.Grips.{HasGrip, IsOfNow}
 use Rattle.snap_shape.specs.declared.grip.Grip.{Grip}
-use Rattle.snap_steps.specs.Counting.{Among, times}
-use Rattle.snap_steps.specs.Facts.{IsKnown, fact, forgotten, same_field}
-use Rattle.snap_steps.specs.Seen.{Known, Becomes}
-use Rattle.snap_steps.specs.States.{link_field}
-use Rattle.snap_steps.specs.Steps.Fields.{read, led_to}
-use Rattle.snap_steps.specs.declared.view.Fact.{Fact}
-use Rattle.snap_steps.specs.declared.view.View.{View}
-use Rattle.snap_steps.proofs.Cells.{one_place}
-use Rattle.snap_steps.proofs.Totals.{times-append}
+use Rattle.snap_prelude.proofs.Common.{one_place, times-append}
 
 -- what stays where the words of some fields change
 pub record Stays (a b : Known) (changed : ℕ → Field → Type 0) : Type 0 where
   pub holds : b.view.holds ≡ a.view.holds
-  pub reached : (r : ℕ) → times r a.view.reached ≤ times r b.view.reached
-  pub present : b.view.present ≡ a.view.present
-  pub knows : (q : ℕ) (g : Field) (y : ℕ) → (changed q g → ⊥) → IsKnown a.view.knows q g y → IsKnown b.view.knows q g y
+  pub reached : (r : ℕ) → times r a.view.trail.reached ≤ times r b.view.trail.reached
+  pub present : b.view.words.present ≡ a.view.words.present
+  pub knows : (q : ℕ) (g : Field) (y : ℕ) → (changed q g → ⊥) → IsKnown a.view.words.knows q g y → IsKnown b.view.words.knows q g y
 
 abbrev pub None : ℕ → Field → Type 0
 None q g = ⊥
@@ -52,21 +42,21 @@ forgotten_else (x ∷ xs) r f q g y ne h = go (x.row == r) refl (same_field x.fi
     go false ea b eb (inr k) on = inr (on k)
 
 -- a step that stores one word
-pub stored : (a b : Known) (w : View) (r : ℕ) (f : Field) (x : ℕ) → Becomes a b w → w.holds ≡ a.view.holds → w.reached ≡ a.view.reached → w.present ≡ a.view.present → w.knows ≡ fact r f x ∷ forgotten a.view.knows r f → Stays a b (One r f)
+pub stored : (a b : Known) (w : View) (r : ℕ) (f : Field) (x : ℕ) → Becomes a b w → w.holds ≡ a.view.holds → w.trail.reached ≡ a.view.trail.reached → w.words.present ≡ a.view.words.present → w.words.knows ≡ fact r f x ∷ forgotten a.view.words.knows r f → Stays a b (One r f)
 stored a b w r f x e holds reached present knows = record {
   holds = ap (λ (k : Known). k.view.holds) e ∙ holds;
-  reached = λ q. omega (arith, ap (λ (k : Known). times q k.view.reached) e, ap (times q) reached);
-  present = ap (λ (k : Known). k.view.present) e ∙ present;
-  knows = λ q g y ne h. subst (λ (l : List Fact). IsKnown l q g y) (sym (ap (λ (k : Known). k.view.knows) e ∙ knows)) (inr (forgotten_else a.view.knows r f q g y ne h));
+  reached = λ q. omega (arith, ap (λ (k : Known). times q k.view.trail.reached) e, ap (times q) reached);
+  present = ap (λ (k : Known). k.view.words.present) e ∙ present;
+  knows = λ q g y ne h. subst (λ (l : List Fact). IsKnown l q g y) (sym (ap (λ (k : Known). k.view.words.knows) e ∙ knows)) (inr (forgotten_else a.view.words.knows r f q g y ne h));
 }
 
-pub stored_here : (a b : Known) (w : View) (r : ℕ) (f : Field) (x : ℕ) → Becomes a b w → w.knows ≡ fact r f x ∷ forgotten a.view.knows r f → IsKnown b.view.knows r f x
-stored_here a b w r f x e knows = subst (λ (l : List Fact). IsKnown l r f x) (sym (ap (λ (k : Known). k.view.knows) e ∙ knows)) (inl (refl, refl, refl))
+pub stored_here : (a b : Known) (w : View) (r : ℕ) (f : Field) (x : ℕ) → Becomes a b w → w.words.knows ≡ fact r f x ∷ forgotten a.view.words.knows r f → IsKnown b.view.words.knows r f x
+stored_here a b w r f x e knows = subst (λ (l : List Fact). IsKnown l r f x) (sym (ap (λ (k : Known). k.view.words.knows) e ∙ knows)) (inl (refl, refl, refl))
 
-more_known : (v : View) (r : ℕ) (f : Field) (x q : ℕ) (g : Field) (y : ℕ) → IsKnown v.knows q g y → IsKnown (read v r f x).knows q g y
+more_known : (v : View) (r : ℕ) (f : Field) (x q : ℕ) (g : Field) (y : ℕ) → IsKnown v.words.knows q g y → IsKnown (read v r f x).words.knows q g y
 more_known v r f x q g y h = go (nat_lt 0 (times r v.holds))
   where
-    go : (b : Bool) → IsKnown (cond b (fact r f x ∷ v.knows) v.knows) q g y
+    go : (b : Bool) → IsKnown (cond b (fact r f x ∷ v.words.knows) v.words.knows) q g y
     go true = inr h
     go false = h
 
@@ -74,15 +64,15 @@ more_known v r f x q g y h = go (nat_lt 0 (times r v.holds))
 pub loaded : (a b : Known) (r : ℕ) (f : Field) (x : ℕ) → Becomes a b (read a.view r f x) → Stays a b None
 loaded a b r f x e = record {
   holds = ap (λ (k : Known). k.view.holds) e;
-  reached = λ q. omega (arith, ap (λ (k : Known). times q k.view.reached) e, times-append q a.view.reached (led_to a.view r f x));
-  present = ap (λ (k : Known). k.view.present) e;
-  knows = λ q g y ne h. subst (λ (k : Known). IsKnown k.view.knows q g y) (sym e) (more_known a.view r f x q g y h);
+  reached = λ q. omega (arith, ap (λ (k : Known). times q k.view.trail.reached) e, times-append q a.view.trail.reached (led_to a.view r f x));
+  present = ap (λ (k : Known). k.view.words.present) e;
+  knows = λ q g y ne h. subst (λ (k : Known). IsKnown k.view.words.knows q g y) (sym e) (more_known a.view r f x q g y h);
 }
 
-pub loaded_here : (a b : Known) (r : ℕ) (f : Field) (x : ℕ) → Among r a.view.holds → Becomes a b (read a.view r f x) → IsKnown b.view.knows r f x
+pub loaded_here : (a b : Known) (r : ℕ) (f : Field) (x : ℕ) → Among r a.view.holds → Becomes a b (read a.view r f x) → IsKnown b.view.words.knows r f x
 loaded_here a b r f x held e =
     let yes : nat_lt 0 (times r a.view.holds) ≡ true = lt-ltb 0 (times r a.view.holds) held in
-    let is : b.view.knows ≡ fact r f x ∷ a.view.knows = ap (λ (k : Known). k.view.knows) e ∙ ap (λ (t : Bool). cond t (fact r f x ∷ a.view.knows) a.view.knows) yes in
+    let is : b.view.words.knows ≡ fact r f x ∷ a.view.words.knows = ap (λ (k : Known). k.view.words.knows) e ∙ ap (λ (t : Bool). cond t (fact r f x ∷ a.view.words.knows) a.view.words.knows) yes in
     subst (λ (l : List Fact). IsKnown l r f x) (sym is) (inl (refl, refl, refl))
 
 -- the key, the birth and the stamp of a row stay where other words change
@@ -101,13 +91,13 @@ grip_stays a b P g s key stamp birth h = record {
 
 -- a link is another field than these
 pub link_no_stamp : (d : Side) → link_field d ≢ Stamp
-link_no_stamp sides.Left = λ e. cc
-link_no_stamp sides.Right = λ e. cc
+link_no_stamp Side.Left = λ e. cc
+link_no_stamp Side.Right = λ e. cc
 
 pub link_no_key : (d : Side) → link_field d ≢ Key
-link_no_key sides.Left = λ e. cc
-link_no_key sides.Right = λ e. cc
+link_no_key Side.Left = λ e. cc
+link_no_key Side.Right = λ e. cc
 
 pub link_no_birth : (d : Side) → link_field d ≢ Birth
-link_no_birth sides.Left = λ e. cc
-link_no_birth sides.Right = λ e. cc
+link_no_birth Side.Left = λ e. cc
+link_no_birth Side.Right = λ e. cc

@@ -3,32 +3,26 @@ use Rattle.std.specs.Prelude.{◌≡◌, ◌≢◌, ◌⊎◌, ◌≤◌, ◌%�
 use Rattle.snap_shape.specs.declared.grip.Edge.{Edge}
 use Rattle.snap_shape.specs.declared.grip.Grip.{Grip}
 use Rattle.snap_shape.specs.declared.grip.Turn.{Turn}
-use Rattle.snap_stamp.specs.declared.layout.Field.TheVariants.{Birth, Key, Stamp}
-use Rattle.snap_stamp.specs.declared.side.Side.{Side}
-use Rattle.snap_stamp.specs.declared.side.Side.TheVariants.{Right}
-use Rattle.snap_steps.specs.Counting.{Among}
-use Rattle.snap_steps.specs.Facts.{IsKnown}
-use Rattle.snap_steps.specs.States.{link_field}
-use Rattle.snap_steps.specs.declared.view.View.{View}
+use Rattle.snap_prelude.specs.{Among, Birth, IsKnown, Key, link_field, Right, Side, Stamp, View}
 
 -- row 0, or a row that was reached and is of this epoch
 pub record IsOfNow (v : View) (r : ℕ) : Type 0 where
-  pub reached : Among r v.reached
+  pub reached : Among r v.trail.reached
   pub birth : ℕ
-  pub is_birth : IsKnown v.knows r Birth birth
-  pub now : Among birth v.present
+  pub is_birth : IsKnown v.words.knows r Birth birth
+  pub now : Among birth v.words.present
 
 -- the row is held, with this key and this stamp, which has no mark
 pub record HasGrip (v : View) (g : Grip) : Type 0 where
   pub held : Among g.row v.holds
-  pub is_key : IsKnown v.knows g.row Key g.key
-  pub is_stamp : IsKnown v.knows g.row Stamp g.stamp
+  pub is_key : IsKnown v.words.knows g.row Key g.key
+  pub is_stamp : IsKnown v.words.knows g.row Stamp g.stamp
   pub unmarked : g.stamp % 4 ≡ 0
   pub own : (g.row ≡ 0) ⊎ IsOfNow v g.row
 
 -- the link of a held row leads to this row
 abbrev pub Leads : View → ℕ → Side → ℕ → Type 0
-Leads v p d r = IsKnown v.knows p (link_field d) r
+Leads v p d r = IsKnown v.words.knows p (link_field d) r
 
 -- a held row and its held child. Of row 0 the right side alone counts
 pub record IsEdge (v : View) (e : Edge) : Type 0 where
@@ -49,7 +43,8 @@ pub record IsTurning (v : View) (t : Turn) : Type 0 where
   pub apart : t.parent.row ≢ t.raised.row
 
 abbrev pub turn_at : Grip → Side → Grip → Side → Grip → Turn
-turn_at parent p row d raised = record { parent = parent; parent_side = p; row = row; side = d; raised = raised }
+turn_at parent p row d raised =
+    record { parent = parent; parent_side = p; row = row; side = d; raised = raised }
 
 -- the child goes down below its own child on the side
 abbrev pub turn_below : Edge → Side → Grip → Turn

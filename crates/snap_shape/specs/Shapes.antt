@@ -1,31 +1,37 @@
 -- What an unlinking and a rotation leave of what their pass knows. The map stays as it is.
 use Rattle.std.specs.Prelude.{◌≡◌, ◌≢◌, ◌+◌, ◌≤◌, ℕ, Some, true}
-use Rattle.snap_rule.specs.declared.change.Doing.TheVariants.{Nothing}
+use Rattle.snap_prelude.specs.{Field, held_words, IsKnown, IsNoted, key_at}
+use Rattle.snap_prelude.specs.{Known, no_more_notes, Nothing, other, times, View}
 use Rattle.snap_shape.specs.Grips.{HasGrip, Leads}
 use Rattle.snap_shape.specs.declared.grip.Edge.{Edge}
 use Rattle.snap_shape.specs.declared.grip.Grip.{Grip}
 use Rattle.snap_shape.specs.declared.grip.Turn.{Turn}
-use Rattle.snap_stamp.specs.Sides.{other}
-use Rattle.snap_stamp.specs.declared.layout.Field.{Field}
-use Rattle.snap_steps.specs.Counting.{times}
-use Rattle.snap_steps.specs.Facts.{IsKnown}
-use Rattle.snap_steps.specs.Seen.{Known}
-use Rattle.snap_steps.specs.Steps.Debts.{key_at}
-use Rattle.snap_steps.specs.Steps.Settling.{IsNoted}
-use Rattle.snap_steps.specs.declared.view.View.{View}
 
 -- the pass with what another view has of such a change: its steps, what it knows, and its debt
 abbrev pub shaped : Known → View → Known
-shaped k w = record { table = k.table; view = record k.view { steps = w.steps; doing = w.doing; knows = w.knows; heights = w.heights; reached = w.reached; worn = w.worn; refused = w.refused; debt = w.debt } }
+shaped k w =
+    record {
+      table = k.table;
+      view = record k.view {
+        trail = w.trail;
+        words = held_words k.view.words w.words;
+        noted = no_more_notes k.view.noted w.noted;
+        doing = w.doing;
+        heights = w.heights;
+        debt = w.debt;
+      };
+    }
 
--- what a change at these rows leaves: no more is held, and what was known of other rows, and of the key and the stamp of any row but the changed one, still is
+-- what a change at these rows leaves: no more is held, and what was known of other rows, and of the
+-- key and the stamp of any row but the changed one, still is
 pub record Keeps (old new : Known) (upper changed lower : ℕ) : Type 0 where
   pub is : new ≡ shaped old new.view
-  pub reached : (r : ℕ) → times r old.view.reached ≤ times r new.view.reached
+  pub reached : (r : ℕ) → times r old.view.trail.reached ≤ times r new.view.trail.reached
   pub whole : new.view.doing ≡ Nothing
-  pub worn : old.view.worn ≡ true → new.view.worn ≡ true
-  pub refused : new.view.refused ≡ old.view.refused
-  pub others : (q : ℕ) (f : Field) (x : ℕ) → q ≢ upper → q ≢ changed → q ≢ lower → IsKnown old.view.knows q f x → IsKnown new.view.knows q f x
+  pub worn : old.view.noted.worn ≡ true → new.view.noted.worn ≡ true
+  pub refused : new.view.words.refused ≡ old.view.words.refused
+  pub others : (q : ℕ) (f : Field) (x : ℕ) → q ≢ upper → q ≢ changed → q ≢ lower
+      → IsKnown old.view.words.knows q f x → IsKnown new.view.words.knows q f x
   pub grips : (g : Grip) → g.row ≢ changed → HasGrip old.view g → HasGrip new.view g
 
 -- the child has left: the parent leads to its one child, and the to-do key is the parent's

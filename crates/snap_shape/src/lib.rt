@@ -4,22 +4,15 @@
 #![tactic(auto)]
 
 ghost use Rattle.std.specs.Prelude.{◌≡◌, ◌≢◌, ◌≤◌, ◌<◌};
-ghost use Rattle.snap_rule.specs.declared.change.Doing.TheVariants.{Nothing};
+ghost use Rattle.snap_prelude.specs.{AimsNear, Among, Becomes, count_of, IsOf, IsRouting};
+ghost use Rattle.snap_prelude.specs.{last_count, Left, link_field, Nothing, read, Right, TurnsFor};
 ghost use Rattle.snap_shape.specs.Grips.{AreWithin, HasGrip, IsEdge, IsTurning, IsWithin, Leads, turn_below};
 ghost use Rattle.snap_shape.specs.Shapes.{Rotates, Unlinks, later};
-ghost use Rattle.snap_stamp.specs.Stamps.{count_of, last_count};
-ghost use Rattle.snap_stamp.specs.declared.side.Side.TheVariants.{Left, Right};
-ghost use Rattle.snap_steps.specs.Counting.{Among};
-ghost use Rattle.snap_steps.specs.Seen.{IsOf, Becomes};
-ghost use Rattle.snap_steps.specs.States.{link_field};
-ghost use Rattle.snap_steps.specs.Steps.Changes.{TurnsFor};
-ghost use Rattle.snap_steps.specs.Steps.Fields.{read};
-ghost use Rattle.snap_steps.specs.Steps.Unlinking.{AimsNear, IsRouting};
 
 mod grip;
 
 pub use grip::{Edge, Grip, Turn, turn_of};
-use snap_stamp::{Field, Key, RowNo, Side};
+use snap_stamp::{Key, RowNo, Side};
 use snap_steps::{
     Pass, Rows, clear_shrinking, link_lowered, link_parent, link_raised, load_word, mark_shrinking,
     mark_unlinked, splice,
@@ -47,7 +40,8 @@ pub fn rotate(rows: &Rows, pass: &mut Pass, turn: &Turn, key: Key) -> Grip
     requires table { IsOf pass.old rows.now }
     requires rows { AreWithin rows.now.rows turn.now }
     requires turn { IsTurning pass.old.view turn.now }
-    requires aims { TurnsFor pass.old.view turn.now.parent.row turn.now.row.row turn.now.raised.row key }
+    requires aims { TurnsFor pass.old.view turn.now.parent.row turn.now.row.row
+        turn.now.raised.row key }
     requires count { count_of turn.now.row.stamp < last_count }
     requires whole { pass.old.view.doing ≡ Nothing }
     ensures row { result ≡ later turn.now.row }
@@ -85,7 +79,8 @@ pub fn rotate_right(rows: &Rows, pass: &mut Pass, edge: &Edge, raised: &Grip, ke
     requires table { IsOf pass.old rows.now }
     requires rows { IsWithin rows.now.rows edge.now × (raised.now.row ≤ rows.now.rows) }
     requires turn { IsTurning pass.old.view (turn_below edge.now Left raised.now) }
-    requires aims { TurnsFor pass.old.view edge.now.parent.row edge.now.child.row raised.now.row key }
+    requires aims { TurnsFor pass.old.view edge.now.parent.row edge.now.child.row raised.now.row
+        key }
     requires count { count_of edge.now.child.stamp < last_count }
     requires whole { pass.old.view.doing ≡ Nothing }
     ensures row { result ≡ later edge.now.child }
@@ -100,7 +95,8 @@ pub fn rotate_left(rows: &Rows, pass: &mut Pass, edge: &Edge, raised: &Grip, key
     requires table { IsOf pass.old rows.now }
     requires rows { IsWithin rows.now.rows edge.now × (raised.now.row ≤ rows.now.rows) }
     requires turn { IsTurning pass.old.view (turn_below edge.now Right raised.now) }
-    requires aims { TurnsFor pass.old.view edge.now.parent.row edge.now.child.row raised.now.row key }
+    requires aims { TurnsFor pass.old.view edge.now.parent.row edge.now.child.row raised.now.row
+        key }
     requires count { count_of edge.now.child.stamp < last_count }
     requires whole { pass.old.view.doing ≡ Nothing }
     ensures row { result ≡ later edge.now.child }
@@ -116,29 +112,12 @@ pub fn child_of(rows: &Rows, pass: &mut Pass, parent: &Grip, side: Side) -> RowN
     requires row { parent.now.row ≤ rows.now.rows }
     requires grip { HasGrip pass.old.view parent.now }
     requires on_right { parent.now.row ≡ 0 → side ≡ Right }
-    ensures pass { Becomes pass.old pass.new (read pass.old.view parent.now.row (link_field side) result) }
+    ensures pass { Becomes pass.old pass.new
+        (read pass.old.view parent.now.row (link_field side) result) }
     ensures low { result ≤ rows.now.rows }
     ensures leads { Leads pass.new.view parent.now.row side result }
-    ensures reached { result ≢ 0 → Among result pass.new.view.reached }
+    ensures reached { result ≢ 0 → Among result pass.new.view.trail.reached }
 {
-    let word = load_word(rows, pass, parent.row, link_of(side));
-    row_of(rows, word)
-}
-
-fn row_of(rows: &Rows, word: u64) -> RowNo
-    requires { word ≤ rows.now.rows }
-    ensures { result ≡ word }
-{
-    let _all = rows.count();
-    RowNo::of(word as u32)
-}
-
-/// The field of a link.
-pub fn link_of(side: Side) -> Field
-    ensures { result ≡ link_field side }
-{
-    match side {
-        Side::Left => Field::Left,
-        Side::Right => Field::Right,
-    }
+    let word = load_word(rows, pass, parent.row, side.link());
+    rows.row_of(word)
 }

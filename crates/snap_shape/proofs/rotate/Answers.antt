@@ -1,7 +1,6 @@
 use Rattle.snap_shape.proofs.Shaping.{edge_stays, rotates, turn_of, turns_still, by_side, key_on, stamps_on}
 use Rattle.snap_shape.proofs.Touching.{None, loaded}
-use Rattle.snap_stamp.specs.Sides.{other}
-use Rattle.snap_steps.specs.States.{link_field}
+use Rattle.snap_prelude.specs.{link_field, other}
 use Rattle.snap_shape.proofs.rotate.Goals as goal
 
 pub mark_shrinking-requires-clause-place : goal.mark_shrinking-requires-clause-place

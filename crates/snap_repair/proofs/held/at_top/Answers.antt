@@ -2,7 +2,7 @@ use Rattle.std.proofs.Common.{◌≡◌, ◌∙◌, rules, false, subst}
 use Rattle.snap_repair.proofs.Inner.{aims_mends}
 use Rattle.snap_repair.proofs.LastRow.{last_after}
 use Rattle.snap_repair.proofs.Mending.{looks_on, mends_on}
-use Rattle.snap_steps.specs.Steps.Settling.{MayAimAt}
+use Rattle.snap_prelude.specs.{MayAimAt}
 use Rattle.snap_repair.proofs.held.at_top.Goals as goal
 
 pub aim-requires-clause-aims : goal.aim-requires-clause-aims

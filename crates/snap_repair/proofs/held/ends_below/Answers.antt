@@ -1,5 +1,5 @@
 use Rattle.snap_repair.proofs.Mending.{born_looks, epoch_looks, looks_on, read_looks}
-use Rattle.snap_steps.specs.States.{link_field}
+use Rattle.snap_prelude.specs.{link_field}
 use Rattle.snap_repair.proofs.held.ends_below.Goals as goal
 
 pub returns-clause-looks : goal.returns-clause-looks

@@ -1,11 +1,12 @@
 use Rattle.std.proofs.Common.{rules, ◌≡◌, ◌<◌, ℕ, Bool, true, false, MatchBool, subst}
 use Rattle.snap_repair.proofs.Inner.{worn_here}
+use Rattle.snap_repair.proofs.Mending.{read_looks}
 use Rattle.snap_repair.specs.Answers.{FindsWorn}
-use Rattle.snap_stamp.specs.Stamps.{count_of, last_count}
-use Rattle.snap_stamp.specs.declared.layout.Field.TheVariants.{Stamp}
-use Rattle.snap_steps.specs.Seen.{Becomes}
-use Rattle.snap_steps.specs.Steps.Fields.{read}
+use Rattle.snap_prelude.specs.{Becomes, count_of, last_count, read, Stamp}
 use Rattle.snap_repair.proofs.held.is_worn_out.Goals as goal
+
+pub returns-clause-looks : goal.returns-clause-looks
+returns-clause-looks c = read_looks c.args.pass.now c.load_word-stamp.new.pass c.args.row.now.row Stamp c.load_word-stamp.result c.load_word-stamp.ensures.pass
 
 pub returns-clause-worn : goal.returns-clause-worn
 returns-clause-worn c =

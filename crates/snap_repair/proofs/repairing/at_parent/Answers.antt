@@ -2,7 +2,7 @@ use Rattle.std.proofs.Common.{◌≡◌, ◌∙◌, rules, ap, refl, []}
 use Rattle.snap_repair.proofs.Inner.{stops_none}
 use Rattle.snap_repair.proofs.Lowering.{times_none, tries_locked}
 use Rattle.snap_repair.proofs.Mending.{looks_on}
-use Rattle.snap_steps.specs.Counting.{times}
+use Rattle.snap_prelude.specs.{times}
 use Rattle.snap_repair.proofs.repairing.at_parent.Goals as goal
 
 pub returns-then-not-leads_to : goal.returns-then-not-leads_to

@@ -1,7 +1,7 @@
 use Rattle.std.proofs.Common.{◌∙◌, rules, subst}
 use Rattle.snap_repair.proofs.Inner.{aims_mends, stops_none, tries_after}
 use Rattle.snap_repair.proofs.Mending.{looks_on, mends_on}
-use Rattle.snap_steps.specs.Steps.Settling.{MayAimAt}
+use Rattle.snap_prelude.specs.{MayAimAt}
 use Rattle.snap_repair.proofs.repairing.at_row.Goals as goal
 
 pub returns-then-not-may_aim : goal.returns-then-not-may_aim

@@ -1,20 +1,24 @@
-use Rattle.std.proofs.Common.{◌≡◌, ◌∙◌, None, Option, Some, rules, subst}
+use Rattle.std.proofs.Common.{◌≡◌, ◌∙◌, None, Option, Some, refl, rules, subst}
 use Rattle.snap_repair.proofs.Inner.{stops_to}
+use Rattle.snap_repair.proofs.Lifting.{mends_itself}
 use Rattle.snap_repair.proofs.Mending.{mends_on, mends_to}
 use Rattle.snap_repair.specs.Answers.{is_full, stops_full}
 use Rattle.snap_repair.specs.Mending.{MendsTo}
 use Rattle.snap_repair.specs.declared.answer.Repaired.{Repaired}
 use Rattle.snap_repair.proofs.repairing.repair.Goals as goal
 
+pub loop-init : goal.loop-init
+loop-init g c = (tt, tt, mends_itself c.args.pass.now, refl, c.requires.way)
+
 pub returns-in-Some-try_repair : goal.returns-in-Some-try_repair
 returns-in-Some-try_repair g c = record {
-  mends = mends_to (is_full c.in-Some-try_repair.why) c.args.pass.now c.loop.pass c.try_repair.new.pass c.loop.invariant.2 c.in-Some-try_repair.ensures.mends;
-  holds = c.in-Some-try_repair.ensures.holds ∙ c.loop.invariant.3;
-  tells = stops_to c.args.rows.now.rows c.args.pass.now c.loop.pass c.try_repair.new.pass (Some c.in-Some-try_repair.why) c.loop.invariant.2 c.in-Some-try_repair.ensures.stops;
+  mends = mends_to (is_full c.in-Some-try_repair.why) c.args.pass.now c.loop.pass c.try_repair.new.pass c.loop.invariant.2 c.in-Some-try_repair.ensures.tries.mends;
+  holds = c.in-Some-try_repair.ensures.tries.holds ∙ c.loop.invariant.3;
+  tells = stops_to c.args.rows.now.rows c.args.pass.now c.loop.pass c.try_repair.new.pass (Some c.in-Some-try_repair.why) c.loop.invariant.2 c.in-Some-try_repair.ensures.tries.stops;
 }
 
 pub loop-preserved : goal.loop-preserved
 loop-preserved g c =
     let none : c.try_repair.result ≡ None = search rules in
-    let m = subst (λ (o : Option Repaired). MendsTo (stops_full o) c.loop.pass c.try_repair.new.pass) none c.try_repair.ensures.mends in
-    (tt, tt, mends_on c.args.pass.now c.loop.pass c.try_repair.new.pass c.loop.invariant.2 m, c.try_repair.ensures.holds ∙ c.loop.invariant.3)
+    let m = subst (λ (o : Option Repaired). MendsTo (stops_full o) c.loop.pass c.try_repair.new.pass) none c.try_repair.ensures.tries.mends in
+    (tt, tt, mends_on c.args.pass.now c.loop.pass c.try_repair.new.pass c.loop.invariant.2 m, c.try_repair.ensures.tries.holds ∙ c.loop.invariant.3, c.try_repair.ensures.way)

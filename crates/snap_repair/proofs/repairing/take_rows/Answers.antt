@@ -1,7 +1,7 @@
 use Rattle.std.proofs.Common.{ap, refl}
 use Rattle.snap_repair.proofs.Lifting.{mends_itself}
 use Rattle.snap_repair.proofs.Lowering.{tries_locked}
-use Rattle.snap_steps.specs.Counting.{times}
+use Rattle.snap_prelude.specs.{times}
 use Rattle.snap_repair.proofs.repairing.take_rows.Goals as goal
 
 pub returns : goal.returns

@@ -1,7 +1,7 @@
 use Rattle.std.proofs.Common.{◌∙◌, ap, inr}
 use Rattle.snap_repair.proofs.Lifting.{edge_height, lifted_to, lifts, seen_settled}
 use Rattle.snap_repair.proofs.Raising.{grip_height}
-use Rattle.snap_rule.specs.Debt.Lists.{or_else}
+use Rattle.snap_prelude.specs.{or_else}
 use Rattle.snap_shape.proofs.Shaping.{pair_of}
 use Rattle.snap_repair.proofs.settling.lift.Goals as goal
 

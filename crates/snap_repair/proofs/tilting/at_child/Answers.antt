@@ -3,10 +3,10 @@ use Rattle.snap_repair.proofs.Inner.{aims_mends, stops_none, stops_worn, tries_a
 use Rattle.snap_repair.proofs.Lowering.{child_edge, higher_by, leans_looks}
 use Rattle.snap_repair.proofs.Mending.{edge_looks, grip_looks, looks_on, mends_on}
 use Rattle.snap_repair.specs.Answers.{FindsWorn, Turns}
-use Rattle.snap_repair.specs.Lowering.{HasChild, IsHigher, Leans}
+use Rattle.snap_prelude.specs.{Leans, other}
+use Rattle.snap_repair.specs.Lowering.{HasChild, IsHigher}
 use Rattle.snap_shape.specs.Grips.{IsTurning}
 use Rattle.snap_shape.specs.declared.grip.Turn.{Turn}
-use Rattle.snap_stamp.specs.Sides.{other}
 use Rattle.snap_repair.proofs.tilting.at_child.Goals as goal
 
 pub returns-then-not-is_settled : goal.returns-then-not-is_settled

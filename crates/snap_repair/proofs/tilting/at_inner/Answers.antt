@@ -2,8 +2,7 @@ use Rattle.std.proofs.Common.{◌∙◌, sym, subst}
 use Rattle.snap_repair.proofs.Inner.{aimed_grip, aims_below, aims_mends, aims_next, held_row, mending_on, stops_none, tries_after}
 use Rattle.snap_repair.proofs.Lowering.{child_edge, higher_looks, leans_looks}
 use Rattle.snap_repair.proofs.Mending.{edge_looks, grip_looks, looks_on, mends_on}
-use Rattle.snap_steps.specs.Steps.Settling.{IsHeldRow, MayAimAt}
-use Rattle.snap_stamp.specs.Sides.{other}
+use Rattle.snap_prelude.specs.{IsHeldRow, MayAimAt, other}
 use Rattle.snap_repair.proofs.tilting.at_inner.Goals as goal
 
 pub aim-requires-clause-held : goal.aim-requires-clause-held

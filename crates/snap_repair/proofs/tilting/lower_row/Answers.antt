@@ -6,7 +6,7 @@ use Rattle.snap_repair.specs.Raising.{Heightens, RaisesFor}
 use Rattle.snap_shape.specs.Grips.{IsEdge, edge_at}
 use Rattle.snap_shape.specs.Shapes.{later}
 use Rattle.snap_shape.specs.declared.grip.Grip.{Grip}
-use Rattle.snap_stamp.specs.declared.side.Side.{Side}
+use Rattle.snap_prelude.specs.{Side}
 use Rattle.snap_repair.proofs.tilting.lower_row.Goals as goal
 
 pub rotate-lowered-requires-clause-aims : goal.rotate-lowered-requires-clause-aims

@@ -1,6 +1,6 @@
 use Rattle.std.proofs.Common.{◌≡◌, ◌∙◌, rules, ap, refl, ◌∷◌, []}
 use Rattle.snap_repair.proofs.Lowering.{child_tilt, edge_owned, leans_on, times_none, tries_locked}
-use Rattle.snap_steps.specs.Counting.{times}
+use Rattle.snap_prelude.specs.{times}
 use Rattle.snap_shape.proofs.Shaping.{born, own_row}
 use Rattle.snap_repair.proofs.tilting.tilt.Goals as goal
 

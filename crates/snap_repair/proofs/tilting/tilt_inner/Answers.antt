@@ -1,8 +1,7 @@
 use Rattle.std.proofs.Common.{◌≡◌, ◌∙◌, rules, sym, subst, ap, refl, ◌∷◌, []}
 use Rattle.snap_repair.proofs.Lowering.{edge_owned, higher_owned, inner_tilt, lacks_tries, leans_past, times_none, tries_locked}
-use Rattle.snap_repair.specs.Lowering.{IsHigher, IsTilt}
-use Rattle.snap_stamp.specs.declared.side.Side.{Side}
-use Rattle.snap_steps.specs.Counting.{times}
+use Rattle.snap_prelude.specs.{IsTilt, Side, times}
+use Rattle.snap_repair.specs.Lowering.{IsHigher}
 use Rattle.snap_shape.proofs.Shaping.{born, own_row}
 use Rattle.snap_repair.proofs.tilting.tilt_inner.Goals as goal
 

@@ -7,9 +7,7 @@ use Rattle.snap_shape.specs.Grips.{IsEdge, IsTurning, edge_at, turn_at}
 use Rattle.snap_shape.specs.Shapes.{Rotates, later}
 use Rattle.snap_shape.specs.declared.grip.Grip.{Grip}
 use Rattle.snap_shape.specs.declared.grip.Turn.{Turn}
-use Rattle.snap_stamp.specs.Sides.{other}
-use Rattle.snap_stamp.specs.Stamps.{count_of, last_count}
-use Rattle.snap_stamp.specs.declared.side.Side.{Side}
+use Rattle.snap_prelude.specs.{count_of, last_count, other, Side}
 use Rattle.snap_repair.proofs.tilting.turn_twice.Goals as goal
 
 pub returns-in-Some : goal.returns-in-Some

@@ -2,8 +2,7 @@ use Rattle.std.proofs.Common.{inl, inr}
 use Rattle.snap_repair.proofs.Inner.{worn_after, worn_out}
 use Rattle.snap_repair.proofs.Lowering.{higher_looks, leans_looks}
 use Rattle.snap_repair.proofs.Mending.{looks_on}
-use Rattle.snap_stamp.specs.Sides.{other}
-use Rattle.snap_steps.specs.States.{link_field}
+use Rattle.snap_prelude.specs.{link_field, other}
 use Rattle.snap_repair.proofs.tilting.worn_row.Goals as goal
 
 pub returns-then-is_worn_out-clause-worn : goal.returns-then-is_worn_out-clause-worn
