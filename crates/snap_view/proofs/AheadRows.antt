@@ -1,13 +1,8 @@
 -- The rows that lie ahead from a key on in an ordered tree: the last of them is the nearest, and behind it the way goes on below it.
 use Rattle.std.proofs.Common.{◌≡◌, ℕ, ◌+◌, ◌<◌, ◌≤◌, ◌⊎◌, Bool, true, false, cond, inl, inr, List, [], ◌∷◌, ◌++◌, length, Option, Some, None, max, refl, sym, ap, ◌∙◌, subst, arith, length-append, append_assoc}
-use Rattle.std.proofs.lemmas.Bool.{le-leb, lt-leb}
-use Rattle.snap_rule.specs.Tree.{Tree, Node, Between, depth, root}
-use Rattle.snap_rule.specs.Tree.Tree.{empty, node}
-use Rattle.snap_rule.proofs.Trees.{child}
-use Rattle.snap_stamp.specs.Sides.{Toward, other}
-use Rattle.snap_stamp.specs.declared.side.Side.{Side}
-use Rattle.snap_stamp.specs.declared.side.Side.TheVariants.{Left, Right}
-use Rattle.snap_steps.specs.Clones.{IsWithin}
+use Rattle.snap_prelude.proofs.Common.{child, le-leb, lt-leb}
+use Rattle.snap_prelude.specs.{Between, depth, empty, IsWithin, Left, Node}
+use Rattle.snap_prelude.specs.{node, other, Right, root, Side, Toward, Tree}
 use Rattle.snap_view.specs.Ahead.{rows_ahead, Leads}
 use Rattle.snap_view.specs.Nearest.{reaches, IsBehind, turn, on, or_else, nearest_row}
 use Rattle.snap_view.specs.declared.ahead.Ahead.{Ahead}

@@ -1,17 +1,10 @@
 -- Which trees are settled, by the heights below their tops, and the row that keeps a clone from it.
 use Rattle.std.proofs.Common.{◌≡◌, ◌≢◌, ℕ, zero, suc, ◌+◌, ◌*◌, ◌^◌, ◌<◌, ◌≤◌, ◌⊎◌, inl, inr, Option, Some, None, IsTrue, is_some, refl, sym, ap, subst, arith}
 use Rattle.std.proofs.lemmas.Grind.{pow_more}
-use native.Mathlib.Decide.{dec_lt}
-use mathlib.Core.Logic.{dite}
-use Rattle.snap_rule.specs.Settled.{HasValue, IsBalanced, IsFull, IsSettledTree, least}
-use Rattle.snap_rule.specs.Tree.{Tree, depth, root, size}
-use Rattle.snap_rule.specs.Tree.Tree.{empty, node}
-use Rattle.snap_rule.proofs.Trees.Shallow.{least_more, least_size}
-use Rattle.snap_rule.proofs.Trees.Sizes.{depth_size}
-use Rattle.snap_steps.specs.Clones.{ArePlaced, IsCaused, IsWeighed, IsWithin}
-use Rattle.snap_steps.specs.declared.clones.RowCopy.{RowCopy}
-use Rattle.snap_steps.specs.declared.view.Balance.{Balance}
-use Rattle.snap_steps.specs.declared.view.Balance.TheVariants.{Settled, RowsOut, StampOut}
+use Rattle.snap_prelude.proofs.Common.{dec_lt, depth_size, dite, least_more, least_size}
+use Rattle.snap_prelude.specs.{ArePlaced, Balance, depth, empty, HasValue, IsBalanced}
+use Rattle.snap_prelude.specs.{IsCaused, IsFull, IsSettledTree, IsWeighed, IsWithin, least}
+use Rattle.snap_prelude.specs.{node, root, RowCopy, RowsOut, Settled, size, StampOut, Tree}
 use Rattle.snap_view.specs.Balances.{IsHeightOf}
 use Rattle.snap_view.specs.Tops.{HasTop, HasTree}
 use Rattle.snap_view.proofs.Within.{within_below, within_each}

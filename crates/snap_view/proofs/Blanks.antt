@@ -1,12 +1,8 @@
 -- Rows without a value in a settled tree: the next row behind one of them has a value, so two ways down find a pair.
 use Rattle.std.proofs.Common.{◌≡◌, ℕ, ◌+◌, ◌≤◌, ◌^◌, ◌⊎◌, inl, inr, true, false, leb, Option, Some, None, refl, sym, ap, ◌∙◌, subst, arith}
-use Rattle.std.proofs.lemmas.Bool.{le-leb, lt-leb}
-use Rattle.snap_rule.specs.Settled.{HasValue, IsFull, IsSettledTree}
-use Rattle.snap_rule.specs.Tree.{Tree, Between, depth}
-use Rattle.snap_rule.specs.Tree.Tree.{empty, node}
-use Rattle.snap_stamp.specs.Sides.{Toward, other}
-use Rattle.snap_stamp.specs.declared.side.Side.{Side}
-use Rattle.snap_stamp.specs.declared.side.Side.TheVariants.{Left, Right}
+use Rattle.snap_prelude.proofs.Common.{le-leb, lt-leb}
+use Rattle.snap_prelude.specs.{Between, depth, empty, HasValue, IsFull, IsSettledTree}
+use Rattle.snap_prelude.specs.{Left, node, other, Right, Side, Toward, Tree}
 use Rattle.snap_view.specs.Nearest.{ReachesAll, reaches, IsBehind, on, or_else, nearest_row}
 use Rattle.snap_view.proofs.Nearing.{reaches_tells, Stays, row_stays}
 

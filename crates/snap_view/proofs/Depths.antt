@@ -1,8 +1,6 @@
 -- The depth of a tree by those below its top.
 use Rattle.std.proofs.Common.{◌≡◌, ℕ, ◌+◌, ◌≤◌, max, Option, Some, None, ap, arith}
-use Rattle.snap_rule.specs.Tree.{Tree, depth, root}
-use Rattle.snap_steps.specs.Clones.{IsWithin}
-use Rattle.snap_steps.specs.declared.clones.RowCopy.{RowCopy}
+use Rattle.snap_prelude.specs.{depth, IsWithin, root, RowCopy, Tree}
 use Rattle.snap_view.specs.Tops.{HasTree, IsDepthOf}
 use Rattle.snap_view.proofs.Balances.{TopAt, has_left, has_right}
 

@@ -1,12 +1,7 @@
 -- How many nodes stand on the ways down a tree.
 use Rattle.std.proofs.Common.{◌≡◌, ℕ, ◌+◌, ◌<◌, ◌≤◌, ◌^◌, max, true, false, leb, Option, Some, None, refl, sym, ap, ◌∙◌, subst, arith}
-use Rattle.std.proofs.lemmas.Bool.{le-leb, lt-leb}
-use native.Mathlib.Decide.{dec_lt}
-use mathlib.Core.Logic.{dite}
-use Rattle.snap_rule.specs.Tree.{Tree, Node, Between, depth, find}
-use Rattle.snap_rule.specs.Tree.Tree.{empty, node}
-use Rattle.snap_stamp.specs.declared.side.Side.{Side}
-use Rattle.snap_stamp.specs.declared.side.Side.TheVariants.{Left, Right}
+use Rattle.snap_prelude.proofs.Common.{dec_lt, dite, le-leb, lt-leb}
+use Rattle.snap_prelude.specs.{Between, depth, empty, find, Left, Node, node, Right, Side, Tree}
 use Rattle.snap_view.specs.Nearest.{IsNearest, IsPast, turn, on, or_else, nearest_row, levels}
 use Rattle.snap_view.proofs.Nearing.{LiesIn, nearest_in, nearest_is}
 use Rattle.snap_view.proofs.Passing.{keys_ahead, fewer_ahead}

@@ -1,14 +1,8 @@
 -- A way down that notes the rows ahead, and the steps from one of them to the next.
 use Rattle.std.proofs.Common.{◌≡◌, ℕ, ◌+◌, ◌<◌, ◌^◌, ◌⊎◌, true, false, inl, inr, List, [], ◌∷◌, ◌++◌, length, Option, Some, None, refl, sym, ap, ◌∙◌, subst, arith, append_assoc, length-append}
-use Rattle.snap_model.specs.History.{after}
-use Rattle.snap_model.specs.SortedMap.{at}
-use Rattle.snap_rule.specs.Tree.{Tree, Node, depth, root}
-use Rattle.snap_rule.proofs.Trees.{child}
-use Rattle.snap_stamp.specs.declared.side.Side.{Side}
-use Rattle.snap_stamp.specs.declared.side.Side.TheVariants.{Left, Right}
-use Rattle.snap_steps.specs.Clones.{Cloned, image, IsCloneOf, IsWithin}
-use Rattle.snap_steps.specs.Copies.{IsCopyOf}
-use Rattle.snap_steps.specs.declared.clones.RowCopy.{RowCopy}
+use Rattle.snap_prelude.specs.{after, at, Cloned, depth, image, IsCloneOf, IsCopyOf}
+use Rattle.snap_prelude.specs.{IsWithin, Left, Node, Right, root, RowCopy, Side, Tree}
+use Rattle.snap_prelude.proofs.Common.{child}
 use Rattle.snap_view.specs.Ahead.{if_ahead, rows_ahead, met, Leads, AreAhead, AreAheadOf, ArePassed}
 use Rattle.snap_view.specs.Nearest.{IsBehind, IsNearest, on, turn}
 use Rattle.snap_view.specs.Tops.{HasTree, IsTopOf}

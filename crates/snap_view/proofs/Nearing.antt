@@ -1,14 +1,8 @@
 -- The row of a tree that is nearest to a key, on one side of it.
 use Rattle.std.proofs.Common.{◌≡◌, ℕ, ◌+◌, ◌<◌, ◌≤◌, Bool, true, false, cond, Option, Some, None, inl, inr, ◌⊎◌, refl, sym, ◌∙◌, arith}
-use Rattle.std.proofs.lemmas.Bool.{le-leb, lt-leb}
-use native.Mathlib.Decide.{dec_lt}
-use mathlib.Core.Logic.{dite}
-use Rattle.snap_rule.specs.Tree.{Tree, Node, Between, find}
-use Rattle.snap_rule.specs.Tree.Tree.{empty, node}
-use Rattle.snap_rule.proofs.Trees.{child, find_here, find_toward}
-use Rattle.snap_stamp.specs.Sides.{Toward, other}
-use Rattle.snap_stamp.specs.declared.side.Side.{Side}
-use Rattle.snap_stamp.specs.declared.side.Side.TheVariants.{Left, Right}
+use Rattle.snap_prelude.proofs.Common.{child, dec_lt, dite, find_here, find_toward, le-leb, lt-leb}
+use Rattle.snap_prelude.specs.{Between, empty, find, Left, Node, node}
+use Rattle.snap_prelude.specs.{other, Right, Side, Toward, Tree}
 use Rattle.snap_view.specs.Nearest.{Reaches, reaches, IsNearest, turn, on, or_else, nearest_row}
 
 -- a key is `from` or lies on that side of it, or lies on the other

@@ -1,17 +1,10 @@
 -- What the pair that is nearest to a key on one side tells of the map.
-use Rattle.std.proofs.Common.{◌≡◌, ℕ, ◌+◌, ◌<◌, ◌≤◌, ◌^◌, true, ltb, leb, [], ◌∷◌, ◌++◌, Option, Some, None, refl, sym, ap, ◌∙◌, subst, arith, ◌&&◌}
-use Rattle.std.proofs.lemmas.Bool.{le-leb}
-use Rattle.std.proofs.lemmas.Bool.Decides.{nat_tests}
+use Rattle.std.proofs.Common.{◌≡◌, ℕ, ◌+◌, ◌<◌, ◌≤◌, ◌^◌, true, ltb, leb, [], ◌∷◌, ◌++◌, Option, Some, None, refl, sym, ap, ◌∙◌, subst, arith, ◌&&◌, reverse}
+use Rattle.snap_prelude.proofs.Common.{filter, filter_same, le-leb, nat_tests}
 use Rattle.std.proofs.lemmas.List.{reverse-append}
-use Rattle.std.specs.Prelude.{reverse}
-use Rattle.std.specs.List.{filter}
-use Rattle.snap_model.specs.SortedMap.{Pairs, at, range, first_pair, last_pair, lower, higher}
-use Rattle.snap_model.specs.History.{after}
-use Rattle.snap_model.proofs.Cutting.{filter_same}
+use Rattle.snap_prelude.specs.{after, at, Cloned, first_pair, higher, image, IsCloneOf}
+use Rattle.snap_prelude.specs.{last_pair, Left, lower, Pairs, range, Right, Side}
 use Rattle.snap_rule.specs.Tree.{entry}
-use Rattle.snap_stamp.specs.declared.side.Side.{Side}
-use Rattle.snap_stamp.specs.declared.side.Side.TheVariants.{Left, Right}
-use Rattle.snap_steps.specs.Clones.{Cloned, image, IsCloneOf}
 use Rattle.snap_view.specs.Nearest.{Reaches, reaches, IsNearestPair, IsBehind, on}
 use Rattle.snap_view.proofs.Ranges.{Rise, pairs_rise, none_pass, no_key_passes, all_pass, first_passes, last_passes}
 

@@ -1,10 +1,7 @@
 -- A search that passes the keys without a value.
 use Rattle.std.proofs.Common.{◌≡◌, ℕ, ◌+◌, ◌-◌, ◌<◌, ◌^◌, ◌⊎◌, inl, inr, Option, Some, None, sym, subst, arith}
-use native.Mathlib.Decide.{dec_lt}
-use mathlib.Core.Logic.{dite}
-use Rattle.snap_stamp.specs.Sides.{Toward}
-use Rattle.snap_stamp.specs.declared.side.Side.{Side}
-use Rattle.snap_stamp.specs.declared.side.Side.TheVariants.{Left, Right}
+use Rattle.snap_prelude.proofs.Common.{dec_lt, dite}
+use Rattle.snap_prelude.specs.{Left, Right, Side, Toward}
 use Rattle.snap_view.specs.Nearest.{Reaches, IsNearest, IsNearestAt, IsBehind}
 
 -- how many keys lie ahead

@@ -1,11 +1,8 @@
 -- Pairs by rising keys, and those of them that pass a test.
 use Rattle.std.proofs.Common.{◌≡◌, ◌≢◌, ℕ, ◌+◌, ◌<◌, ◌≤◌, Bool, true, false, eqb, ltb, eq-eqb, ne_eqb, lt-ltb, le-ltb, inl, inr, [], ◌∷◌, ◌++◌, Option, Some, None, refl, sym, ap, ◌∙◌, arith, ◌&&◌}
-use Rattle.std.proofs.lemmas.Bool.{cases_order}
-use Rattle.std.proofs.lemmas.Bool.Decides.{nat_tests}
-use Rattle.std.specs.List.{filter}
-use Rattle.snap_model.specs.SortedMap.{Pairs, at}
-use Rattle.snap_rule.specs.Tree.{Tree, Between, entry, pairs}
-use Rattle.snap_rule.specs.Tree.Tree.{empty, node}
+use Rattle.snap_prelude.proofs.Common.{cases_order, filter, nat_tests}
+use Rattle.snap_prelude.specs.{at, Between, empty, node, Pairs, pairs, Tree}
+use Rattle.snap_rule.specs.Tree.{entry}
 
 -- the keys rise from `from` on and stay below `until`
 abbrev pub Rise : ℕ → ℕ → Pairs → Type 0

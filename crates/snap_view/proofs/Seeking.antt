@@ -1,20 +1,11 @@
 -- The way down a clone's tree.
-use Rattle.std.proofs.Common.{◌≡◌, ◌≢◌, ℕ, ◌+◌, ◌<◌, ◌≤◌, ◌^◌, Bool, true, false, Option, Some, None, refl, sym, ap, ◌∙◌, subst, arith}
-use Rattle.std.specs.Prelude.{if◌then◌else◌}
-use Rattle.snap_model.specs.History.{after}
-use Rattle.snap_model.specs.SortedMap.{Pairs, at}
-use Rattle.snap_rule.specs.Tree.{Tree, Node, Between, depth, find, root, size}
-use Rattle.snap_rule.specs.Tree.Tree.{node}
-use Rattle.snap_rule.proofs.Pairs.{find_at}
-use Rattle.snap_rule.proofs.Trees.{child, find_here}
-use Rattle.snap_stamp.specs.declared.side.Side.{Side}
-use Rattle.snap_stamp.specs.declared.side.Side.TheVariants.{Left, Right}
-use Rattle.snap_steps.specs.Clones.{Cloned, image, IsCloneOf, IsWithin}
-use Rattle.snap_steps.specs.declared.clones.RowCopy.{RowCopy}
+use Rattle.std.proofs.Common.{◌≡◌, ◌≢◌, ℕ, ◌+◌, ◌<◌, ◌≤◌, ◌^◌, Bool, true, false, Option, Some, None, refl, sym, ap, ◌∙◌, subst, arith, if◌then◌else◌}
+use Rattle.snap_prelude.specs.{after, at, Between, Cloned, depth, find, image, IsCloneOf, IsWithin}
+use Rattle.snap_prelude.specs.{Left, Node, node, Pairs, Right, root, RowCopy, Side, size, Tree}
+use Rattle.snap_prelude.proofs.Common.{child, depth_size, find_at, find_here}
 use Rattle.snap_view.specs.Nearest.{reaches, IsNearest, turn, on, or_else, if_reached, nearest_row, levels}
 use Rattle.snap_view.specs.Tops.{HasTop, HasTree, IsTopOf, rows_read}
 use Rattle.snap_view.specs.declared.way.WayDown.{WayDown}
-use Rattle.snap_rule.proofs.Trees.Sizes.{depth_size}
 use Rattle.snap_view.proofs.Levels.{levels_within}
 use Rattle.snap_view.proofs.Nearing.{nearest_is, same_nearest}
 use Rattle.snap_view.proofs.Within.{within_itself, levels_below, levels_are, next_tree, next_within, next_root, next_depth, next_find}

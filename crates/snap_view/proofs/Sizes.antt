@@ -1,14 +1,9 @@
 -- A clone has no more rows than were handed out, so words hold its counts.
 use Rattle.std.proofs.Common.{◌≡◌, ℕ, ◌*◌, ◌^◌, ◌<◌, ◌≤◌, ◌&&◌, not, nat_le, length, refl, ap, subst, arith}
 use Rattle.std.proofs.lemmas.List.Filters.{length-filter_both}
-use Rattle.snap_model.specs.History.{after}
-use Rattle.snap_model.specs.SortedMap.{Pairs, count}
-use Rattle.snap_rule.proofs.Trees.Shallow.{settled_shallow}
-use Rattle.snap_rule.proofs.Trees.Sizes.{depth_size, pairs_size, size_full}
-use Rattle.snap_rule.specs.Settled.{IsSettledTree, least}
-use Rattle.snap_rule.specs.Tree.{depth, pairs, size}
-use Rattle.snap_steps.specs.Clones.{Cloned, image}
-use Rattle.snap_steps.specs.Seen.{Laid}
+use Rattle.snap_prelude.specs.{after, Cloned, count, depth, image}
+use Rattle.snap_prelude.specs.{IsSettledTree, Laid, least, Pairs, pairs, size}
+use Rattle.snap_prelude.proofs.Common.{depth_size, pairs_size, settled_shallow, size_full}
 use Rattle.snap_view.specs.Readable.{IsReadable}
 
 module _ (rows : Laid) (seat now : Cloned) (is : seat ≡ now) (readable : IsReadable rows seat) where

@@ -1,13 +1,8 @@
 -- The steps of a walk through the pairs of a clone.
-use Rattle.std.proofs.Common.{◌≡◌, ℕ, ◌+◌, ◌^◌, arith, true, false, [], ◌∷◌, Option, Some, None, sym, ap, ◌∙◌}
+use Rattle.std.proofs.Common.{◌≡◌, ℕ, ◌+◌, ◌^◌, arith, true, false, [], ◌∷◌, Option, Some, None, sym, ap, ◌∙◌, reverse}
 use Rattle.std.proofs.lemmas.Bool.{leb-true, leb-false}
-use Rattle.std.specs.Prelude.{reverse}
-use Rattle.snap_model.specs.History.{after}
-use Rattle.snap_model.specs.SortedMap.{Pairs, at, range}
-use Rattle.snap_stamp.specs.Sides.{other}
-use Rattle.snap_stamp.specs.declared.side.Side.{Side}
-use Rattle.snap_stamp.specs.declared.side.Side.TheVariants.{Left, Right}
-use Rattle.snap_steps.specs.Clones.{Cloned, image, IsCloneOf}
+use Rattle.snap_prelude.specs.{after, at, Cloned, image, IsCloneOf}
+use Rattle.snap_prelude.specs.{Left, other, Pairs, range, Right, Side}
 use Rattle.snap_view.specs.Nearest.{IsBehind, IsNearestPair, reaches}
 use Rattle.snap_view.specs.Walked.{toward}
 use Rattle.snap_view.proofs.Neighbours.{before_range, below_is, clone_rises, empty_above, empty_below, none_falling, none_rising, past_range, range_falls, range_rises}

@@ -1,14 +1,8 @@
 -- Trees within a tree.
 use Rattle.std.proofs.Common.{◌≡◌, ◌≢◌, inl, inr, ℕ, ◌+◌, ◌<◌, ◌≤◌, true, false, cond, eqb, ltb, leb, eq-eqb, ne_eqb, lt-ltb, le-ltb, Option, Some, None, refl, sym, ap, ◌∙◌, subst, arith, max}
-use Rattle.std.proofs.lemmas.Bool.{cases_order, le-leb, lt-leb}
-use Rattle.snap_rule.specs.Tree.{Tree, Node, Between, EachRow, Stands, depth, find, root}
-use Rattle.snap_rule.specs.Tree.Tree.{empty, node}
-use Rattle.snap_rule.proofs.Trees.{child, find_left, find_right}
-use Rattle.snap_stamp.specs.declared.side.Side.{Side}
-use Rattle.snap_stamp.specs.declared.side.Side.TheVariants.{Left, Right}
-use Rattle.snap_steps.specs.Clones.{ArePlaced, IsWithin}
-use Rattle.snap_steps.specs.Copies.{IsCopyOf, CopiesRow}
-use Rattle.snap_steps.specs.declared.clones.RowCopy.{RowCopy}
+use Rattle.snap_prelude.proofs.Common.{cases_order, child, find_left, find_right, le-leb, lt-leb}
+use Rattle.snap_prelude.specs.{ArePlaced, Between, CopiesRow, depth, EachRow, empty, find, IsCopyOf}
+use Rattle.snap_prelude.specs.{IsWithin, Left, Node, node, Right, root, RowCopy, Side, Stands, Tree}
 use Rattle.snap_view.specs.Nearest.{turn, on}
 use Rattle.snap_view.specs.Tops.{HasTree, IsTopOf}
 

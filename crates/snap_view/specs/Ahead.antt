@@ -1,9 +1,7 @@
--- The rows of a tree that lie ahead of a walk: those on the way down to the row nearest to a key at which the way turns back.
+-- The rows of a tree that lie ahead of a walk: those on the way down to the row nearest to a key at
+-- which the way turns back.
 use Rattle.std.specs.Prelude.{◌≡◌, ℕ, ◌+◌, ◌<◌, ◌⊎◌, true, false, List, [], ◌∷◌, ◌++◌, length, Option, Some, None, if◌then◌else◌}
-use Rattle.snap_rule.specs.Tree.{Tree, root, depth}
-use Rattle.snap_rule.specs.Tree.Tree.{empty, node}
-use Rattle.snap_stamp.specs.declared.side.Side.{Side}
-use Rattle.snap_steps.specs.declared.clones.RowCopy.{RowCopy}
+use Rattle.snap_prelude.specs.{depth, empty, node, root, RowCopy, Side, Tree}
 use Rattle.snap_view.specs.Nearest.{reaches, turn, on, IsBehind}
 use Rattle.snap_view.specs.declared.ahead.Ahead.{Ahead}
 use Rattle.snap_view.specs.declared.ahead.RowsAhead.{RowsAhead}
@@ -14,11 +12,14 @@ if_ahead side from x = if reaches side from x.key then x ∷ [] else []
 -- from the top down
 abbrev pub rows_ahead : Side → ℕ → Tree → List Ahead
 rows_ahead side from empty = []
-rows_ahead side from (node n a b) = if_ahead side from (record { key = n.key; value = n.value; beyond = on side (root a) (root b) }) ++ on (turn side from n.key) (rows_ahead side from a) (rows_ahead side from b)
+rows_ahead side from (node n a b) = if_ahead side from
+    (record { key = n.key; value = n.value; beyond = on side (root a) (root b) })
+    ++ on (turn side from n.key) (rows_ahead side from a) (rows_ahead side from b)
 
 -- a copy's row, if it lies ahead
 abbrev pub met : Side → ℕ → RowCopy → List Ahead
-met side from copy = if_ahead side from (record { key = copy.key; value = copy.value; beyond = on side copy.left copy.right })
+met side from copy = if_ahead side from
+    (record { key = copy.key; value = copy.value; beyond = on side copy.left copy.right })
 
 -- so many rows were added, or they are lost, since they were too many
 pub record Leads (old new : RowsAhead) (more : List Ahead) : Type 0 where
@@ -38,4 +39,5 @@ AreAheadOf side (Some from) t ahead = AreAhead side from t ahead
 -- the same behind a row that was passed, if there is one: from whatever key is the next
 abbrev pub ArePassed : {A : Type 0} → Side → Tree → Option (ℕ × A) → RowsAhead → Type 0
 ArePassed side t None ahead = Unit {0}
-ArePassed side t (Some p) ahead = (next : Option ℕ) → IsBehind side p.0 next → AreAheadOf side next t ahead
+ArePassed side t (Some p) ahead =
+    (next : Option ℕ) → IsBehind side p.0 next → AreAheadOf side next t ahead

@@ -1,10 +1,6 @@
 -- The row nearest to a key, on one side of it.
 use Rattle.std.specs.Prelude.{◌≡◌, ℕ, ◌+◌, ◌<◌, ◌≤◌, ◌^◌, Bool, nat_le, Option, Some, None, if◌then◌else◌}
-use Rattle.snap_rule.specs.Tree.{Tree}
-use Rattle.snap_rule.specs.Tree.Tree.{empty, node}
-use Rattle.snap_stamp.specs.Sides.{Toward, other}
-use Rattle.snap_stamp.specs.declared.side.Side.{Side}
-use Rattle.snap_stamp.specs.declared.side.Side.TheVariants.{Left, Right}
+use Rattle.snap_prelude.specs.{empty, Left, node, other, Right, Side, Toward, Tree}
 
 -- the key is `from`, or lies on that side of it
 abbrev pub Reaches : Side → ℕ → ℕ → Type 0
@@ -20,7 +16,8 @@ abbrev pub ReachesAll : Side → ℕ → Type 0
 ReachesAll side from = (k : ℕ) → k < 2 ^ 64 → Reaches side from k
 
 -- the key lies so and has this value or none, and the keys that lie nearer have none
-pub record IsNearestAt (has : ℕ → Option ℕ) (side : Side) (from key : ℕ) (value : Option ℕ) : Type 0 where
+pub record IsNearestAt (has : ℕ → Option ℕ) (side : Side) (from key : ℕ)
+    (value : Option ℕ) : Type 0 where
   pub lies : Reaches side from key
   pub is : has key ≡ value
   pub nearer : (k : ℕ) → Reaches side from k → Toward side key k → has k ≡ None
@@ -65,9 +62,12 @@ if_reached side from p = if reaches side from p.0 then Some p else None
 -- that node's key and value
 abbrev pub nearest_row : Side → ℕ → Tree → Option (ℕ × Option ℕ)
 nearest_row side from empty = None
-nearest_row side from (node n a b) = or_else (on (turn side from n.key) (nearest_row side from a) (nearest_row side from b)) (if_reached side from (n.key, n.value))
+nearest_row side from (node n a b) = or_else
+    (on (turn side from n.key) (nearest_row side from a) (nearest_row side from b))
+    (if_reached side from (n.key, n.value))
 
 -- how many nodes stand on that way
 abbrev pub levels : Side → ℕ → Tree → ℕ
 levels side from empty = 0
-levels side from (node n a b) = on (turn side from n.key) (levels side from a) (levels side from b) + 1
+levels side from (node n a b) =
+    on (turn side from n.key) (levels side from a) (levels side from b) + 1

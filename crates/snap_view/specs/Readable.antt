@@ -1,9 +1,8 @@
 -- A clone that can be read.
-use Rattle.snap_steps.specs.Clones.{ArePlaced, Cloned, image, IsCloneOf, IsWeighed}
-use Rattle.snap_steps.specs.Copies.{IsCloneAt}
-use Rattle.snap_steps.specs.Seen.{Laid}
+use Rattle.snap_prelude.specs.{ArePlaced, Cloned, image, IsCloneAt, IsCloneOf, IsWeighed, Laid}
 
--- the seat is of that table, its tree tells the map after its base and has no more rows than were handed out, and it is settled or is known why not
+-- the seat is of that table, its tree tells the map after its base and has no more rows than were
+-- handed out, and it is settled or is known why not
 pub record IsReadable (rows : Laid) (seat : Cloned) : Type 0 where
   pub at : IsCloneAt seat rows
   pub clone : IsCloneOf seat.base (image seat)

@@ -1,10 +1,6 @@
 -- Trees within a clone's, by the copies of their top rows.
 use Rattle.std.specs.Prelude.{◌≡◌, ℕ, ◌<◌, ◌≤◌, Option, Some, None}
-use Rattle.snap_rule.specs.Tree.{Tree, Node, depth, root}
-use Rattle.snap_rule.specs.Tree.Tree.{empty, node}
-use Rattle.snap_steps.specs.Clones.{IsWithin}
-use Rattle.snap_steps.specs.Copies.{IsCopyOf}
-use Rattle.snap_steps.specs.declared.clones.RowCopy.{RowCopy}
+use Rattle.snap_prelude.specs.{depth, empty, IsCopyOf, IsWithin, Node, node, root, RowCopy, Tree}
 
 -- the copy is of the top of the tree
 pub record HasTop (t : Tree) (copy : RowCopy) : Type 0 where

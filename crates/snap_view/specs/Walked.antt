@@ -1,10 +1,6 @@
 -- What a walk through the pairs of a clone has left.
 use Rattle.std.specs.Prelude.{ℕ, [], Option, Some, None, reverse}
-use Rattle.snap_model.specs.History.{after}
-use Rattle.snap_model.specs.SortedMap.{Pairs, range}
-use Rattle.snap_stamp.specs.declared.side.Side.{Side}
-use Rattle.snap_stamp.specs.declared.side.Side.TheVariants.{Left, Right}
-use Rattle.snap_steps.specs.Clones.{Cloned}
+use Rattle.snap_prelude.specs.{after, Cloned, Left, Pairs, range, Right, Side}
 
 -- a walk through this clone toward the side, from the next key on if there is one, up to the bound
 pub record Walked : Type 0 where

@@ -1,5 +1,5 @@
 -- What an ascent and a descent have left.
-use Rattle.snap_model.specs.SortedMap.{Pairs}
+use Rattle.snap_prelude.specs.{Pairs}
 use Rattle.snap_view.specs.Walked.{left}
 use Rattle.snap_view.specs.declared.ascend.Ascend.{Ascend}
 use Rattle.snap_view.specs.declared.descend.Descend.{Descend}

@@ -1,9 +1,7 @@
 //! Whether the tree of a clone is settled, and else what kept it from being so.
 ghost use Rattle.std.specs.Prelude.{◌≡◌, ◌≤◌, ◌<◌, ℕ, ◌↔◌, ◌⊎◌, ◌≢◌, IsTrue, true, false};
-ghost use Rattle.snap_rule.specs.Settled.{IsBalanced, HasValue, IsSettledTree};
-ghost use Rattle.snap_rule.specs.Tree.{Tree, root};
-ghost use Rattle.snap_steps.specs.Clones.{image, IsWithin};
-ghost use Rattle.snap_steps.specs.declared.view.Balance.TheVariants.{StampOut};
+ghost use Rattle.snap_prelude.specs.{HasValue, image, IsBalanced, IsSettledTree};
+ghost use Rattle.snap_prelude.specs.{IsWithin, root, StampOut, Tree};
 ghost use Rattle.snap_view.specs.Balances.{IsHeightOf, TellsBalance, with_out};
 ghost use Rattle.snap_view.specs.Tops.{HasTree};
 
@@ -77,7 +75,8 @@ impl<'t> TableView<'t> {
         steps: &mut Steps<L>,
     ) -> Option<u64>
         requires { HasTree (image self.old) row }
-        ensures height { (t : Tree) → IsWithin t (image self.old) → root t ≡ row → IsHeightOf t levels result }
+        ensures height { (t : Tree) → IsWithin t (image self.old) → root t ≡ row
+            → IsHeightOf t levels result }
         ensures view { self.new ≡ self.old }
     {
         let _rows = self.rows;

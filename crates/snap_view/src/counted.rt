@@ -1,11 +1,8 @@
 //! The ordered answers of a clone, with a counter of the rows that they read. Where its tree is settled each goes down
 //! at most twice, since past a row without a value the next row has one.
 ghost use Rattle.std.specs.Prelude.{◌≡◌, ◌≤◌, ◌+◌, ◌*◌};
-ghost use Rattle.snap_model.specs.History.{after};
-ghost use Rattle.snap_model.specs.SortedMap.{first_pair, last_pair, floor, lower, ceiling, higher};
-ghost use Rattle.snap_rule.specs.Settled.{IsSettledTree};
-ghost use Rattle.snap_rule.specs.Tree.{depth};
-ghost use Rattle.snap_steps.specs.Clones.{image};
+ghost use Rattle.snap_prelude.specs.{after, ceiling, depth, first_pair, floor};
+ghost use Rattle.snap_prelude.specs.{higher, image, IsSettledTree, last_pair, lower};
 
 use crate::table_view::TableView;
 use crate::way::behind;
@@ -19,7 +16,8 @@ impl<'t> TableView<'t> {
     pub fn first_counted<L: Ledger>(&mut self, steps: &mut Steps<L>) -> Option<(Key, u64)>
         ensures first { result ≡ first_pair (after self.old.base) }
         ensures view { self.new ≡ self.old }
-        ensures steps { IsSettledTree (image self.old) → steps.new ≤ steps.old + depth (image self.old) }
+        ensures steps { IsSettledTree (image self.old)
+            → steps.new ≤ steps.old + depth (image self.old) }
     {
         self.nearest_pair(Side::Right, 0, steps)
     }
@@ -28,7 +26,8 @@ impl<'t> TableView<'t> {
     pub fn last_counted<L: Ledger>(&mut self, steps: &mut Steps<L>) -> Option<(Key, u64)>
         ensures last { result ≡ last_pair (after self.old.base) }
         ensures view { self.new ≡ self.old }
-        ensures steps { IsSettledTree (image self.old) → steps.new ≤ steps.old + depth (image self.old) }
+        ensures steps { IsSettledTree (image self.old)
+            → steps.new ≤ steps.old + depth (image self.old) }
     {
         self.nearest_pair(Side::Left, Key::MAX, steps)
     }
@@ -37,7 +36,8 @@ impl<'t> TableView<'t> {
     pub fn floor_counted<L: Ledger>(&mut self, key: Key, steps: &mut Steps<L>) -> Option<(Key, u64)>
         ensures floor { result ≡ floor (after self.old.base) key }
         ensures view { self.new ≡ self.old }
-        ensures steps { IsSettledTree (image self.old) → steps.new ≤ steps.old + 2 * depth (image self.old) }
+        ensures steps { IsSettledTree (image self.old)
+            → steps.new ≤ steps.old + 2 * depth (image self.old) }
     {
         self.nearest_pair(Side::Left, key, steps)
     }
@@ -46,7 +46,8 @@ impl<'t> TableView<'t> {
     pub fn lower_counted<L: Ledger>(&mut self, key: Key, steps: &mut Steps<L>) -> Option<(Key, u64)>
         ensures lower { result ≡ lower (after self.old.base) key }
         ensures view { self.new ≡ self.old }
-        ensures steps { IsSettledTree (image self.old) → steps.new ≤ steps.old + 2 * depth (image self.old) }
+        ensures steps { IsSettledTree (image self.old)
+            → steps.new ≤ steps.old + 2 * depth (image self.old) }
     {
         let before = behind(Side::Left, key)?;
         self.nearest_pair(Side::Left, before, steps)
@@ -60,7 +61,8 @@ impl<'t> TableView<'t> {
     ) -> Option<(Key, u64)>
         ensures ceiling { result ≡ ceiling (after self.old.base) key }
         ensures view { self.new ≡ self.old }
-        ensures steps { IsSettledTree (image self.old) → steps.new ≤ steps.old + 2 * depth (image self.old) }
+        ensures steps { IsSettledTree (image self.old)
+            → steps.new ≤ steps.old + 2 * depth (image self.old) }
     {
         self.nearest_pair(Side::Right, key, steps)
     }
@@ -73,7 +75,8 @@ impl<'t> TableView<'t> {
     ) -> Option<(Key, u64)>
         ensures higher { result ≡ higher (after self.old.base) key }
         ensures view { self.new ≡ self.old }
-        ensures steps { IsSettledTree (image self.old) → steps.new ≤ steps.old + 2 * depth (image self.old) }
+        ensures steps { IsSettledTree (image self.old)
+            → steps.new ≤ steps.old + 2 * depth (image self.old) }
     {
         let _rows = self.rows;
         let next = behind(Side::Right, key)?;

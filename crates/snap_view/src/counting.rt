@@ -1,11 +1,7 @@
 //! How many pairs a clone has in a range, and how deep its tree is.
 ghost use Rattle.std.specs.Prelude.{◌≡◌, ◌≤◌, ◌<◌, ◌*◌, ◌^◌, length};
-ghost use Rattle.snap_model.specs.History.{after};
-ghost use Rattle.snap_model.specs.SortedMap.{count};
-ghost use Rattle.snap_rule.specs.Settled.{IsSettledTree, least};
-ghost use Rattle.snap_rule.specs.Tree.{Tree, depth, root};
-ghost use Rattle.snap_stamp.specs.declared.side.Side.TheVariants.{Right};
-ghost use Rattle.snap_steps.specs.Clones.{image, IsWithin};
+ghost use Rattle.snap_prelude.specs.{after, count, depth, image, IsSettledTree};
+ghost use Rattle.snap_prelude.specs.{IsWithin, least, Right, root, Tree};
 ghost use Rattle.snap_view.specs.Nearest.{IsPast, levels};
 ghost use Rattle.snap_view.specs.Tops.{HasTree, IsDepthOf};
 
@@ -47,7 +43,8 @@ impl<'t> TableView<'t> {
         ensures depth { result ≡ depth (image self.old) }
         ensures low { result ≤ self.old.next }
         ensures pairs { length (after self.old.base) < 2 ^ result }
-        ensures shallow { IsSettledTree (image self.old) → least result ≤ 2 * length (after self.old.base) }
+        ensures shallow { IsSettledTree (image self.old)
+            → least result ≤ 2 * length (after self.old.base) }
         ensures view { self.new ≡ self.old }
     {
         let _last = self.seat.next();
@@ -89,7 +86,8 @@ impl<'t> TableView<'t> {
     // The depth of the tree that stands at this row, where it has no more levels than these.
     fn depth_at<L: Ledger>(&mut self, row: RowNo, levels: u32, steps: &mut Steps<L>) -> Option<u32>
         requires { HasTree (image self.old) row }
-        ensures depth { (t : Tree) → IsWithin t (image self.old) → root t ≡ row → IsDepthOf t levels result }
+        ensures depth { (t : Tree) → IsWithin t (image self.old) → root t ≡ row
+            → IsDepthOf t levels result }
         ensures view { self.new ≡ self.old }
     {
         match self.row_at(row, steps) {

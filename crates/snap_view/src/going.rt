@@ -1,9 +1,6 @@
 //! Passing the rows of a clone one after another toward one side, with the rows ahead at hand.
 ghost use Rattle.std.specs.Prelude.{◌≡◌, ◌<◌};
-ghost use Rattle.snap_model.specs.History.{after};
-ghost use Rattle.snap_model.specs.SortedMap.{at};
-ghost use Rattle.snap_rule.specs.Tree.{Tree, root};
-ghost use Rattle.snap_steps.specs.Clones.{image, IsCloneOf, IsWithin};
+ghost use Rattle.snap_prelude.specs.{after, at, image, IsCloneOf, IsWithin, root, Tree};
 ghost use Rattle.snap_view.specs.Ahead.{rows_ahead, Leads, AreAhead, ArePassed};
 ghost use Rattle.snap_view.specs.Nearest.{IsNearest, IsNearestPair};
 ghost use Rattle.snap_view.specs.Tops.{HasTree};
@@ -26,7 +23,8 @@ impl<'t> TableView<'t> {
         steps: &mut Steps<L>,
     )
         requires { HasTree (image self.old) row }
-        ensures ahead { (t : Tree) → IsWithin t (image self.old) → root t ≡ row → Leads ahead.old ahead.new (rows_ahead side from t) }
+        ensures ahead { (t : Tree) → IsWithin t (image self.old) → root t ≡ row
+            → Leads ahead.old ahead.new (rows_ahead side from t) }
         ensures view { self.new ≡ self.old }
     {
         let _rows = self.rows;

@@ -1,11 +1,6 @@
 //! The row of a clone that is nearest to a key, on one side of it.
 ghost use Rattle.std.specs.Prelude.{◌≡◌, ◌≤◌, ◌+◌, ◌*◌, ◌<◌};
-ghost use Rattle.snap_model.specs.History.{after};
-ghost use Rattle.snap_model.specs.SortedMap.{at};
-ghost use Rattle.snap_rule.specs.Settled.{IsSettledTree};
-ghost use Rattle.snap_rule.specs.Tree.{depth};
-ghost use Rattle.snap_stamp.specs.declared.side.Side.TheVariants.{Right};
-ghost use Rattle.snap_steps.specs.Clones.{image, IsCloneOf};
+ghost use Rattle.snap_prelude.specs.{after, at, depth, image, IsCloneOf, IsSettledTree, Right};
 ghost use Rattle.snap_view.specs.Nearest.{IsNearest, IsNearestPair, ReachesAll, nearest_row, levels};
 
 use crate::table_view::TableView;
@@ -71,8 +66,10 @@ impl<'t> TableView<'t> {
         ensures nearest { IsNearestPair (at (after self.old.base)) side from result }
         ensures clone { IsCloneOf self.old.base (image self.old) }
         ensures view { self.new ≡ self.old }
-        ensures steps { IsSettledTree (image self.old) → steps.new ≤ steps.old + 2 * depth (image self.old) }
-        ensures end { IsSettledTree (image self.old) → ReachesAll side from → steps.new ≤ steps.old + depth (image self.old) }
+        ensures steps { IsSettledTree (image self.old)
+            → steps.new ≤ steps.old + 2 * depth (image self.old) }
+        ensures end { IsSettledTree (image self.old) → ReachesAll side from
+            → steps.new ≤ steps.old + depth (image self.old) }
     {
         let _rows = self.rows;
         let mut next = Some(from);

@@ -1,8 +1,7 @@
 //! The ordered answers of a clone. Where its tree is settled each goes down at most twice, since past a row without a
 //! value the next row has one.
 ghost use Rattle.std.specs.Prelude.{◌≡◌};
-ghost use Rattle.snap_model.specs.History.{after};
-ghost use Rattle.snap_model.specs.SortedMap.{first_pair, last_pair, floor, lower, ceiling, higher};
+ghost use Rattle.snap_prelude.specs.{after, ceiling, first_pair, floor, higher, last_pair, lower};
 
 use crate::table_view::TableView;
 use crate::way::behind;

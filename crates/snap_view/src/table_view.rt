@@ -1,9 +1,7 @@
 //! A clone, the value at a key, and its pairs.
 ghost use Rattle.std.specs.Prelude.{◌≡◌, ◌≤◌, ◌<◌, ◌+◌, reverse};
-ghost use Rattle.snap_model.specs.History.{after};
-ghost use Rattle.snap_model.specs.SortedMap.{at, range};
-ghost use Rattle.snap_rule.specs.Tree.{Tree, depth, root};
-ghost use Rattle.snap_steps.specs.Clones.{image, IsCloneOf, IsWithin};
+ghost use Rattle.snap_prelude.specs.{after, at, depth, image, IsCloneOf};
+ghost use Rattle.snap_prelude.specs.{IsWithin, range, root, Tree};
 ghost use Rattle.snap_view.specs.Readable.{IsReadable};
 ghost use Rattle.snap_view.specs.Walks.{pairs_left, falling_left};
 ghost use Rattle.snap_view.specs.Tops.{HasTree, IsTopOf, rows_read};
@@ -25,7 +23,7 @@ pub struct TableView<'t> {
 }
 
 impl<'t> Model for TableView<'t> {
-    ghost use Rattle.snap_steps.specs.Clones.{Cloned};
+    ghost use Rattle.snap_prelude.specs.{Cloned};
     ghost use Rattle.snap_view.specs.Readable.{IsReadable};
 
     ghost Value = { Cloned };

@@ -21,7 +21,7 @@ pub struct Walk<'t> {
 }
 
 impl<'t> Model for Walk<'t> {
-    ghost use Rattle.snap_steps.specs.Clones.{image};
+    ghost use Rattle.snap_prelude.specs.{image};
     ghost use Rattle.snap_view.specs.Ahead.{AreAheadOf};
     ghost use Rattle.snap_view.specs.Walked.{Walked};
 

@@ -48,7 +48,8 @@ pub fn nearer(
     side: Side,
     from: Key,
 ) -> Option<(Key, Option<u64>)>
-    ensures { result ≡ (if reaches side from copy.now.key then Some (copy.now.key, copy.now.value) else best) }
+    ensures { result
+        ≡ (if reaches side from copy.now.key then Some (copy.now.key, copy.now.value) else best) }
 {
     if reaches(side, from, copy.key) {
         Some((copy.key, copy.value))

@@ -1,5 +1,5 @@
 use Rattle.std.proofs.Common.{◌+◌, ◌∙◌, ℕ, Some, None, sym, subst, arith, ap}
-use Rattle.snap_steps.specs.Clones.{Cloned, image}
+use Rattle.snap_prelude.specs.{Cloned, image}
 use Rattle.snap_view.specs.Tops.{HasTree}
 use Rattle.snap_view.proofs.Balances.{has_left, has_right}
 use Rattle.snap_view.proofs.Depths.{DepthAt, left_deep, right_deep, low_depth, some_depth}

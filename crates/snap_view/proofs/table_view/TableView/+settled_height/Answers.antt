@@ -1,5 +1,5 @@
 use Rattle.std.proofs.Common.{rules, ◌≡◌, ◌+◌, ◌∙◌, ℕ, Some, None, Bool, false, true, IsTrue, sym, subst, arith}
-use Rattle.snap_steps.specs.Clones.{ArePlaced, Cloned, image}
+use Rattle.snap_prelude.specs.{ArePlaced, Cloned, image}
 use Rattle.snap_view.specs.Tops.{HasTree}
 use Rattle.snap_view.proofs.Balances.{HeightAt, has_left, has_right, none_left, none_right, some_height, none_balanced, none_needed}
 use Rattle.snap_view.proofs.table_view.TableView.+settled_height.Goals as goal

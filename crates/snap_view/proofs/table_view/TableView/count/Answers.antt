@@ -1,7 +1,5 @@
 use Rattle.std.proofs.Common.{ℕ, ap, arith, length}
-use Rattle.snap_model.specs.History.{after}
-use Rattle.snap_model.specs.SortedMap.{count}
-use Rattle.snap_steps.specs.Clones.{Cloned}
+use Rattle.snap_prelude.specs.{after, Cloned, count}
 use Rattle.snap_view.proofs.Sizes.{count_low}
 use Rattle.snap_view.proofs.Counts.{counted_on}
 use Rattle.snap_view.proofs.table_view.TableView.count.Goals as goal

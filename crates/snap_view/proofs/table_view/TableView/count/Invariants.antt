@@ -1,6 +1,5 @@
 use Rattle.std.proofs.Common.{◌≡◌}
-use Rattle.snap_model.specs.History.{after}
-use Rattle.snap_model.specs.SortedMap.{count}
+use Rattle.snap_prelude.specs.{after, count}
 use Rattle.snap_view.proofs.Counts.{HasCounted}
 use Rattle.snap_view.proofs.table_view.TableView.count.Given as goal
 

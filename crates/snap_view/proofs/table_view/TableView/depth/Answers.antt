@@ -1,7 +1,5 @@
 use Rattle.std.proofs.Common.{ℕ, ◌<◌, ◌≤◌, ◌*◌, ◌^◌, length, arith, ap, sym, subst}
-use Rattle.snap_model.specs.History.{after}
-use Rattle.snap_rule.specs.Settled.{IsSettledTree, least}
-use Rattle.snap_steps.specs.Clones.{Cloned, image}
+use Rattle.snap_prelude.specs.{after, Cloned, image, IsSettledTree, least}
 use Rattle.snap_view.proofs.Sizes.{depth_low, pairs_below, is_shallow}
 use Rattle.snap_view.proofs.table_view.TableView.depth.Goals as goal
 

@@ -1,8 +1,5 @@
 use Rattle.std.proofs.Common.{◌∙◌, ◌<◌, ◌^◌, Option, sym, subst}
-use Rattle.snap_rule.specs.Tree.{Tree}
-use Rattle.snap_stamp.specs.declared.side.Side.TheVariants.{Right}
-use Rattle.snap_steps.specs.Clones.{Cloned, image, IsWithin}
-use Rattle.snap_steps.specs.declared.clones.RowCopy.{RowCopy}
+use Rattle.snap_prelude.specs.{Cloned, image, IsWithin, Right, RowCopy, Tree}
 use Rattle.snap_view.specs.Tops.{HasTree}
 use Rattle.snap_view.proofs.Seeking.{Seeks, next_row, TopsAt, seeks_from, seeks_on, seeks_found, seeks_none, has_next, next_fewer, value_told}
 use Rattle.snap_view.proofs.Within.{levels_below}

@@ -1,7 +1,5 @@
 use Rattle.std.proofs.Common.{◌∙◌, ◌^◌, subst}
-use Rattle.snap_model.specs.History.{after}
-use Rattle.snap_stamp.specs.declared.side.Side.TheVariants.{Right}
-use Rattle.snap_steps.specs.Clones.{Cloned}
+use Rattle.snap_prelude.specs.{after, Cloned, Right}
 use Rattle.snap_view.proofs.Neighbours.{clone_rises, nearest_answer, higher_answer, none_higher}
 use Rattle.snap_view.proofs.Ranges.{Rise}
 use Rattle.snap_view.proofs.table_view.TableView.higher.Goals as goal

@@ -1,7 +1,5 @@
 use Rattle.std.proofs.Common.{◌≡◌, ◌^◌, ◌<◌, Bool, IsTrue, sym, subst, arith}
-use Rattle.snap_rule.specs.Settled.{IsSettledTree}
-use Rattle.snap_rule.specs.Tree.{Tree, size, root}
-use Rattle.snap_steps.specs.Clones.{Cloned, image}
+use Rattle.snap_prelude.specs.{Cloned, image, IsSettledTree, root, size, Tree}
 use Rattle.snap_view.proofs.Balances.{found_tells}
 use Rattle.snap_view.proofs.Within.{within_itself}
 use Rattle.snap_view.proofs.table_view.TableView.is_settled.Goals as goal

@@ -1,6 +1,5 @@
 use Rattle.std.proofs.Common.{◌∙◌}
-use Rattle.snap_model.specs.History.{after}
-use Rattle.snap_stamp.specs.declared.side.Side.TheVariants.{Left}
+use Rattle.snap_prelude.specs.{after, Left}
 use Rattle.snap_view.proofs.Neighbours.{clone_rises, nearest_answer, last_answer}
 use Rattle.snap_view.proofs.table_view.TableView.last_counted.Goals as goal
 

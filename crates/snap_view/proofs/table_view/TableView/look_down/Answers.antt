@@ -1,7 +1,5 @@
 use Rattle.std.proofs.Common.{◌∙◌, ◌<◌, ◌^◌, Option, sym, subst}
-use Rattle.snap_rule.specs.Tree.{Tree, Between}
-use Rattle.snap_steps.specs.Clones.{Cloned, image, IsWithin}
-use Rattle.snap_steps.specs.declared.clones.RowCopy.{RowCopy}
+use Rattle.snap_prelude.specs.{Between, Cloned, image, IsWithin, RowCopy, Tree}
 use Rattle.snap_view.specs.Tops.{HasTree}
 use Rattle.snap_view.proofs.Looking.{MeetsAt, meets_from, meets_on, meets_end}
 use Rattle.snap_view.proofs.Seeking.{next_row, TopsAt, has_next, next_fewer}

@@ -1,5 +1,5 @@
 use Rattle.std.proofs.Common.{◌≡◌}
-use Rattle.snap_steps.specs.Clones.{image}
+use Rattle.snap_prelude.specs.{image}
 use Rattle.snap_view.proofs.Looking.{MeetsAt}
 use Rattle.snap_view.proofs.Within.{levels_below}
 use Rattle.snap_view.proofs.table_view.TableView.look_down.Given as goal

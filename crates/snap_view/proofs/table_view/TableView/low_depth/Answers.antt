@@ -1,6 +1,5 @@
 use Rattle.std.proofs.Common.{◌≡◌, sym, subst}
-use Rattle.snap_rule.specs.Tree.{root}
-use Rattle.snap_steps.specs.Clones.{Cloned, image}
+use Rattle.snap_prelude.specs.{Cloned, image, root}
 use Rattle.snap_view.proofs.Within.{within_itself}
 use Rattle.snap_view.proofs.table_view.TableView.low_depth.Goals as goal
 

@@ -1,9 +1,6 @@
 use Rattle.std.proofs.Common.{◌≡◌, ◌∙◌, ◌+◌, ◌<◌, ◌≤◌, ◌^◌, ℕ, Option, Some, refl, sym, subst}
-use Rattle.snap_model.specs.History.{after}
-use Rattle.snap_model.specs.SortedMap.{at}
-use Rattle.snap_steps.specs.Clones.{Cloned, image}
+use Rattle.snap_prelude.specs.{after, at, Between, Cloned, depth, image, Tree}
 use Rattle.snap_view.specs.Nearest.{IsNearest, nearest_row}
-use Rattle.snap_rule.specs.Tree.{Tree, Between, depth}
 use Rattle.snap_view.proofs.Blanks.{HasSpent, spent_none, spent_on}
 use Rattle.snap_view.proofs.Passing.{HasPassed, keys_ahead, passed_none, passed_on, fewer_ahead}
 use Rattle.snap_view.proofs.table_view.TableView.nearest_pair.Goals as goal

@@ -1,7 +1,5 @@
 use Rattle.std.proofs.Common.{◌∙◌, ◌<◌, ℕ, Option, Some, refl, sym, subst}
-use Rattle.snap_model.specs.History.{after}
-use Rattle.snap_model.specs.SortedMap.{at}
-use Rattle.snap_steps.specs.Clones.{Cloned, image}
+use Rattle.snap_prelude.specs.{after, at, Cloned, image}
 use Rattle.snap_view.specs.Ahead.{AreAheadOf, ArePassed}
 use Rattle.snap_view.specs.Nearest.{IsNearest}
 use Rattle.snap_view.proofs.Passing.{HasPassed, keys_ahead, passed_none, passed_on, fewer_ahead}

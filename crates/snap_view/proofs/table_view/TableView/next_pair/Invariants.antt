@@ -1,7 +1,5 @@
 use Rattle.std.proofs.Common.{◌≡◌}
-use Rattle.snap_model.specs.History.{after}
-use Rattle.snap_model.specs.SortedMap.{at}
-use Rattle.snap_steps.specs.Clones.{image}
+use Rattle.snap_prelude.specs.{after, at, image}
 use Rattle.snap_view.specs.Ahead.{AreAheadOf}
 use Rattle.snap_view.proofs.Passing.{HasPassed, keys_ahead}
 use Rattle.snap_view.proofs.table_view.TableView.next_pair.Given as goal

@@ -1,7 +1,5 @@
 use Rattle.std.proofs.Common.{Some, refl, sym, subst}
-use Rattle.snap_model.specs.History.{after}
-use Rattle.snap_model.specs.SortedMap.{at}
-use Rattle.snap_steps.specs.Clones.{Cloned, image, IsCloneOf}
+use Rattle.snap_prelude.specs.{after, at, Cloned, image, IsCloneOf}
 use Rattle.snap_view.specs.Nearest.{IsNearest}
 use Rattle.snap_view.proofs.Looking.{are_passed, empty_of, behind_last, has_beyond, last_nearest, none_left}
 use Rattle.snap_view.proofs.table_view.TableView.next_row.Goals as goal

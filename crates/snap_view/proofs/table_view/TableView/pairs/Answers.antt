@@ -1,6 +1,5 @@
 use Rattle.std.proofs.Common.{◌∙◌, ◌^◌, subst}
-use Rattle.snap_model.specs.History.{after}
-use Rattle.snap_steps.specs.Clones.{Cloned}
+use Rattle.snap_prelude.specs.{after, Cloned}
 use Rattle.snap_view.proofs.Neighbours.{clone_rises, whole_range}
 use Rattle.snap_view.proofs.Ranges.{Rise}
 use Rattle.snap_view.proofs.table_view.TableView.pairs.Goals as goal

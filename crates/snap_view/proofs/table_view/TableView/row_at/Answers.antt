@@ -1,6 +1,5 @@
 use Rattle.std.proofs.Common.{rules, ◌≡◌, ◌≢◌, ◌∙◌, sym, subst, arith}
-use Rattle.snap_steps.specs.Clones.{ArePlaced, Cloned, image}
-use Rattle.snap_steps.specs.Copies.{CopiesRow}
+use Rattle.snap_prelude.specs.{ArePlaced, Cloned, CopiesRow, image}
 use Rattle.snap_view.specs.Tops.{HasTree}
 use Rattle.snap_view.proofs.Within.{empty_at, top_at, copied_top}
 use Rattle.snap_view.proofs.table_view.TableView.row_at.Goals as goal

@@ -1,6 +1,5 @@
 use Rattle.std.proofs.Common.{◌≡◌, ◌≢◌, ◌≤◌, ◌<◌, ◌∙◌, ℕ, false, true, refl, sym, ap, subst, arith}
-use Rattle.snap_steps.specs.Clones.{Cloned, IsWeighed, image}
-use Rattle.snap_steps.specs.declared.view.Balance.TheVariants.{StampOut}
+use Rattle.snap_prelude.specs.{Cloned, image, IsWeighed, StampOut}
 use Rattle.snap_view.proofs.Balances.{out_low, out_row}
 use Rattle.snap_view.proofs.table_view.TableView.row_out.Goals as goal
 

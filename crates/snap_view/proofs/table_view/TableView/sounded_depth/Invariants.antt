@@ -1,6 +1,5 @@
 use Rattle.std.proofs.Common.{◌≡◌}
-use Rattle.snap_stamp.specs.declared.side.Side.TheVariants.{Right}
-use Rattle.snap_steps.specs.Clones.{image}
+use Rattle.snap_prelude.specs.{image, Right}
 use Rattle.snap_view.proofs.Levels.{HasSounded}
 use Rattle.snap_view.proofs.Passing.{keys_ahead}
 use Rattle.snap_view.proofs.table_view.TableView.sounded_depth.Given as goal

@@ -1,7 +1,5 @@
 use Rattle.std.proofs.Common.{◌+◌, ap, arith, refl, ◌∙◌, ◌<◌, ◌^◌, Option, sym, subst}
-use Rattle.snap_rule.specs.Tree.{Tree}
-use Rattle.snap_steps.specs.Clones.{Cloned, image, IsWithin}
-use Rattle.snap_steps.specs.declared.clones.RowCopy.{RowCopy}
+use Rattle.snap_prelude.specs.{Cloned, image, IsWithin, RowCopy, Tree}
 use Rattle.snap_view.specs.Tops.{HasTree}
 use Rattle.snap_view.specs.declared.way.WayDown.{WayDown}
 use Rattle.snap_view.proofs.Seeking.{Descends, next_row, TopsAt, descends_from, descends_on, descends_end, descends_low, has_next, next_fewer}

@@ -1,7 +1,5 @@
 use Rattle.std.proofs.Common.{refl, sym, ap, ◌∙◌, subst}
-use Rattle.snap_model.specs.History.{after}
-use Rattle.snap_model.specs.SortedMap.{at}
-use Rattle.snap_stamp.specs.declared.side.Side.{Side}
+use Rattle.snap_prelude.specs.{after, at, Side}
 use Rattle.snap_view.specs.Nearest.{IsNearestPair, reaches}
 use Rattle.snap_view.specs.Walked.{left}
 use Rattle.snap_view.proofs.Walking.{walk_gives, walk_ends, walk_passes}
