@@ -1,3 +1,4 @@
 pub mod Outlets
 pub mod Rule
 pub mod Seats
+pub mod Posts

@@ -26,7 +26,8 @@ and_piece s piece = record s { pieces = s.pieces ++ piece ∷ [] }
 
 -- a sender that has sent nothing
 abbrev pub new_sender : OutletId → ℕ → SenderAt
-new_sender outlet number = record { outlet = outlet; sent = record { sender = number; pieces = [] } }
+new_sender outlet number =
+    record { outlet = outlet; sent = record { sender = number; pieces = [] } }
 
 -- the senders of the numbers below n, which have sent nothing
 abbrev pub new_senders : OutletId → ℕ → List SenderAt
@@ -35,7 +36,12 @@ new_senders outlet (suc n) = new_senders outlet n ++ new_sender outlet n ∷ []
 
 -- the taker of an empty outlet with n senders
 abbrev pub new_taker : OutletId → ℕ → TakerAt
-new_taker outlet n = record { outlet = outlet; tally = record { senders = n; taken = []; waiting = []; finished = [] } }
+new_taker outlet n = record
+    { outlet = outlet; tally = record { senders = n; taken = []; waiting = []; finished = [] } }
+
+-- what the taker knows once it has gathered these senders too
+abbrev pub with_receipts : TakerAt → List Sent → TakerAt
+with_receipts t sent = record t { tally = record t.tally { finished = t.tally.finished ++ sent } }
 
 -- the pieces of one sender among these, in their order
 abbrev pub pieces_of : ℕ → List Parcel → List Piece
@@ -49,9 +55,12 @@ IsInOrder taken s = Begins (pieces_of s.sender taken) s.pieces
 abbrev pub IsAll : List Parcel → Sent → Type 0
 IsAll taken s = pieces_of s.sender taken ≡ s.pieces
 
--- One piece more was taken, of one of the senders. What the taker knew to wait comes out first, in its order
+-- One piece more was taken, of one of the senders. What the taker knew to wait comes out first, in
+-- its order
 pub record TakesNext (t : Tally) (piece : Piece) (u : Tally) : Type 0 where
   pub sender : ℕ
   pub is_one : sender < t.senders
-  pub adds : u ≡ record t { taken = t.taken ++ (record { sender = sender; piece = piece }) ∷ []; waiting = u.waiting }
+  pub adds : u
+      ≡ record t
+      { taken = t.taken ++ (record { sender = sender; piece = piece }) ∷ []; waiting = u.waiting }
   pub in_turn : Begins t.waiting ((record { sender = sender; piece = piece }) ∷ u.waiting)

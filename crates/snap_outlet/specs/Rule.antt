@@ -22,8 +22,8 @@ tally_in (Sends s) = record { senders = 0; taken = []; waiting = []; finished = 
 tally_in (Takes t) = t
 tally_in Gathered = record { senders = 0; taken = []; waiting = []; finished = [] }
 
--- What is true of the whole outlet: the taker's seat, the seat of each sender that has not been gathered, what each sender
--- has sent, and what was taken
+-- What is true of the whole outlet: the taker's seat, the seat of each sender that has not been
+-- gathered, what each sender has sent, and what was taken
 pub record Books : Type 0 where
   pub taker : ℕ
   pub seat : ℕ → Option ℕ
@@ -46,7 +46,8 @@ pub record IsUnmade (b : Books) (sender : ℕ) : Type 0 where
   pub unseated : b.seat sender ≡ none
   pub silent : b.sent sender ≡ []
 
--- this is the one taker; it knows what was taken, some that waits in front, and what finished senders sent
+-- this is the one taker; it knows what was taken, some that waits in front, and what finished
+-- senders sent
 pub record FitsTaker (b : Books) (items : List Parcel) (seat : ℕ) (t : Tally) : Type 0 where
   pub alone : seat ≡ b.taker
   pub knows : t.taken ≡ b.taken

@@ -4,7 +4,9 @@
 mod line;
 mod outlet;
 mod piece;
+mod post;
 mod view;
 
 pub use outlet::{MOST_SENDERS, OutReceipt, OutSender, Outlet, Taker};
 pub use piece::{Piece, PieceBytes};
+pub use post::Post;

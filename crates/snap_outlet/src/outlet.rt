@@ -1,6 +1,7 @@
 //! The outlet, its senders and its taker.
-ghost use Rattle.std.specs.Prelude.{◌≡◌, ◌+◌, ◌++◌, ◌∷◌, ◌≤◌, [], All, IfErr, IfNone, IfOk, IfSome, OnOk};
+ghost use Rattle.std.specs.Prelude.{◌≡◌, ◌+◌, ◌++◌, ◌∷◌, ◌≤◌, [], All, IfErr, IfNone, IfOk, IfSome, List, OnOk, map};
 ghost use Rattle.snap_outlet.specs.Outlets.{IsAll, IsInOrder, TakesNext, and_piece, new_sender, new_senders, new_taker};
+ghost use Rattle.snap_outlet.specs.Posts.{AreAllPut, AreNumbered, PostAt};
 
 use crate::line::{Fetches, Gathers, Line, LinePass, Makes, Posts};
 use crate::piece::Piece;
@@ -50,7 +51,8 @@ impl Model for OutSender {
 
     ghost view = { λ s. record { outlet = s.pass.web; sent = sent_in s.pass.me.view.client } };
 
-    ghost invariant = { λ s. (s.pass.me.hand ≡ None) × (s.pass.me.spare ≡ None) × IsSenders s.pass.me.view.client × IsNumbered s.pass.me.view.client s.number };
+    ghost invariant = { λ s. (s.pass.me.hand ≡ None) × (s.pass.me.spare ≡ None)
+        × IsSenders s.pass.me.view.client × IsNumbered s.pass.me.view.client s.number };
 }
 
 /// A sender that has ended. Contracts see what it sent in all.
@@ -69,7 +71,8 @@ impl Model for OutReceipt {
 
     ghost view = { λ s. record { outlet = s.pass.web; sent = sent_in s.pass.me.view.client } };
 
-    ghost invariant = { λ s. (s.pass.me.hand ≡ None) × (s.pass.me.spare ≡ None) × IsSenders s.pass.me.view.client };
+    ghost invariant = { λ s. (s.pass.me.hand ≡ None) × (s.pass.me.spare ≡ None)
+        × IsSenders s.pass.me.view.client };
 }
 
 /// What takes the pieces of all senders. Contracts see what it has taken, and what each sender sent whose receipt it has
@@ -89,7 +92,8 @@ impl Model for Taker {
 
     ghost view = { λ t. record { outlet = t.pass.web; tally = tally_in t.pass.me.view.client } };
 
-    ghost invariant = { λ t. (t.pass.me.hand ≡ None) × (t.pass.me.spare ≡ None) × IsTakers t.pass.me.view.client };
+    ghost invariant = { λ t. (t.pass.me.hand ≡ None) × (t.pass.me.spare ≡ None)
+        × IsTakers t.pass.me.view.client };
 }
 
 impl Outlet {
@@ -135,7 +139,8 @@ impl Outlet {
         piece: Piece,
     ) -> Result<(), (Piece, OutOfMemory)>
         requires sender { sender.old.outlet ≡ self.now }
-        ensures sent { OnOk result (sender.new ≡ record sender.old { sent = and_piece sender.old.sent piece }) }
+        ensures sent { OnOk result
+            (sender.new ≡ record sender.old { sent = and_piece sender.old.sent piece }) }
         ensures refused { IfErr result (λ refused. refused.0 ≡ piece) }
         ensures stays { IfErr result (λ _. sender.new ≡ sender.old) }
     {
@@ -160,6 +165,9 @@ impl Outlet {
         ensures stays { IfNone result (taker.new ≡ taker.old) }
         ensures empty { IfNone result (taker.old.tally.waiting ≡ []) }
         ensures all { IfNone result (All (IsAll taker.new.tally.taken) taker.new.tally.finished) }
+        ensures all_put { IfNone result
+            ((posts : List PostAt) → taker.old.tally.finished ≡ map (λ p. p.sent) posts
+            → AreNumbered 0 posts → AreAllPut taker.new.tally.taken posts) }
     {
         let parcel = self.line.pop_as::<Fetches, R>(rt, &mut taker.pass)?;
         Some(parcel.piece)
@@ -179,7 +187,11 @@ impl Outlet {
     pub fn gather(&self, taker: &mut Taker, receipt: OutReceipt)
         requires taker { taker.old.outlet ≡ self.now }
         requires receipt { receipt.outlet ≡ self.now }
-        ensures { taker.new ≡ record taker.old { tally = record taker.old.tally { finished = taker.old.tally.finished ++ receipt.sent ∷ [] } } }
+        ensures { taker.new
+            ≡ record taker.old {
+              tally = record taker.old.tally
+                  { finished = taker.old.tally.finished ++ receipt.sent ∷ [] };
+            } }
     {
         let OutReceipt { pass } = receipt;
         self.line.absorb::<Gathers>(&mut taker.pass, pass);
