@@ -1,18 +1,15 @@
 -- New sessions, and lists made from the end.
-use Rattle.std.specs.Prelude.{reverse, slice_get, slice_index_or, unwrap_or}
-use Rattle.std.proofs.Common.{zero, suc, ◌≡◌, ◌≤◌, ◌<◌, ◌+◌, ◌-◌, ◌^◌, ℕ, List, [], ◌∷◌, ◌++◌, Some, length, get_or, inl, inr, refl, ap, sym, ◌∙◌, subst, arith}
-use Rattle.std.proofs.lemmas.List.{length-map, length_push, get_or-map, get_or-reverse, get_or_append_left, get_or_push}
-use Rattle.std.proofs.lemmas.Option.{slice_get-get_or}
-use Rattle.snap_model.specs.declared.command.Command.{Command}
-use Rattle.snap_steps.specs.Seen.{Known, Laid}
+use Rattle.std.proofs.Common.{zero, suc, ◌≡◌, ◌≤◌, ◌<◌, ◌+◌, ◌-◌, ◌^◌, ℕ, List, [], ◌∷◌, ◌++◌, length, get_or, inl, inr, refl, ap, sym, ◌∙◌, subst, arith, reverse, slice_get, slice_index_or}
+use Rattle.snap_prelude.proofs.Common.{get_or-map, get_or-reverse, get_or_append_left}
+use Rattle.snap_prelude.proofs.Common.{length-map, length_push, slice_get-get_or}
+use Rattle.std.proofs.lemmas.List.{get_or_push}
+use Rattle.snap_prelude.specs.{Command, Known, Laid}
 use Rattle.snap_text.specs.LoadFiles.{Loads}
-use Rattle.snap_service.specs.Kits.{IsUncut}
-use Rattle.snap_service.specs.Runs.{IsFresh}
-use Rattle.snap_service.specs.States.{AreNewKits, AreSeated, IsSeated, State, Tables, most_uses, new_kit, new_pass, nobody, nowhere, opened, pass_at, table_at}
+use Rattle.snap_service.specs.Prelude.{AreNewKits, AreSeated, IsFresh, IsSeated, IsUncut}
+use Rattle.snap_service.specs.Prelude.{most_uses, new_kit, new_pass, nobody, nowhere}
+use Rattle.snap_service.specs.Prelude.{opened, pass_at, State, table_at, Tables}
 use Rattle.snap_service.proofs.Ending.{get_more}
-use Rattle.snap_crew.specs.Jobs.{IsScript}
-use Rattle.snap_crew.specs.Mirrors.{Mirrors}
-use Rattle.snap_crew.specs.Works.{CanWork}
+use Rattle.snap_crew.specs.Prelude.{CanWork, IsScript, Mirrors}
 
 pub mirror_next : {X : Type 0} (n : ℕ) (xs more : List X) (P : ℕ → X → Type 0) (left place : ℕ) (x : X) → place + 1 ≡ left → length xs + left ≡ n → more ≡ xs ++ x ∷ [] → P place x → Mirrors n xs P → Mirrors n more P
 mirror_next {X} n xs more P left place x one all is here h j i y sum e = elim (get_more xs x j y (ap (λ (l : List X). slice_get l j) (sym is) ∙ e)) [

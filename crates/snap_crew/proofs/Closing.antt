@@ -1,18 +1,12 @@
 -- Tables that the caller's kit closes, with a clone of its own or without one.
-use native.Mathlib.Decide.{dec_lt}
-use mathlib.Core.Logic.{dite}
-use Rattle.std.specs.Prelude.{cond, slice_get, slice_index_or}
-use Rattle.std.proofs.Common.{◌≡◌, ◌<◌, ◌+◌, ◌-◌, eq-eqb, ℕ, Bool, true, false, List, [], ◌∷◌, length, Option, Some, None, refl, ap, sym, ◌∙◌, subst, arith}
-use Rattle.std.proofs.lemmas.List.{get_or-set_same, length-set}
-use Rattle.std.proofs.lemmas.Option.{slice_get-get_or, slice_get_past}
-use Rattle.snap_model.specs.History.{after}
-use Rattle.snap_steps.specs.Clones.{Cloned}
-use Rattle.snap_steps.specs.Ending.{Closes, Ended}
-use Rattle.snap_steps.specs.Seen.{Known}
+use Rattle.snap_prelude.proofs.Common.{dec_lt, dite, get_or-set_same}
+use Rattle.snap_prelude.proofs.Common.{slice_get-get_or, slice_get_past}
+use Rattle.std.proofs.Common.{◌≡◌, ◌<◌, ◌+◌, ◌-◌, eq-eqb, ℕ, Bool, List, [], ◌∷◌, length, Option, Some, ap, sym, ◌∙◌, arith, cond, slice_get, slice_index_or}
+use Rattle.snap_prelude.specs.{after, Cloned, Closes, Ended, Known}
 use Rattle.snap_text.specs.Tables.{table_text}
-use Rattle.snap_service.specs.Courses.{cuts_among, cuts_of, front_of, fronts_of}
-use Rattle.snap_service.specs.Kits.{AreClosed, IsFinal, IsUncut}
-use Rattle.snap_service.specs.States.{AreSeated, AreTables, Tables, nobody, pass_at}
+use Rattle.snap_service.specs.Prelude.{AreClosed, AreSeated, AreTables}
+use Rattle.snap_service.specs.Prelude.{cuts_among, cuts_of, front_of, fronts_of}
+use Rattle.snap_service.specs.Prelude.{IsFinal, IsUncut, nobody, pass_at, Tables}
 
 -- the front of a table is what its pass has seen and cut
 module _ (kit : List Known) (fronts : List Ended) (closed : AreClosed kit fronts) (t : ℕ) (l : t < length kit) where

@@ -1,12 +1,8 @@
 -- The end of a run, by the workers' receipts.
-use Rattle.std.specs.Prelude.{IfOk, slice_index_or}
-use Rattle.std.proofs.Common.{◌≡◌, ◌<◌, ◌+◌, ◌-◌, ℕ, Bool, List, length, Result, Ok, Err, sym, subst, arith}
-use Rattle.snap_steps.specs.Seen.{Known}
-use Rattle.snap_service.specs.Courses.{fronts_of}
-use Rattle.snap_service.specs.Kits.{Admits}
-use Rattle.snap_service.specs.States.{AreSeated, Tables}
-use Rattle.snap_crew.specs.Endings.{AreWorkers, IsEnd, IsEnding, IsTextIf}
-use Rattle.snap_crew.specs.declared.ending.Ending.{Ending}
+use Rattle.std.proofs.Common.{◌≡◌, ◌<◌, ◌+◌, ◌-◌, ℕ, Bool, List, length, Result, Ok, Err, sym, subst, arith, IfOk, slice_index_or}
+use Rattle.snap_prelude.specs.{Known}
+use Rattle.snap_service.specs.Prelude.{Admits, AreSeated, fronts_of, Tables}
+use Rattle.snap_crew.specs.Prelude.{AreWorkers, Ending, IsEnd, IsEnding, IsTextIf}
 
 module _ (tables : Tables) (kit : List Known) (receipts : List (List Known)) (last wanted : Bool) (same : last ≡ wanted) where
   pub is_end : (ending : Ending) → tables.kits ≡ length receipts + 1 → ((i : ℕ) (d : List Known) → i < length receipts → AreSeated tables (slice_index_or receipts i d))

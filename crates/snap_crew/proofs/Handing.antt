@@ -1,21 +1,12 @@
 -- What jobs hand over, by number, and what the closed tables tell of it.
-use Rattle.std.specs.Prelude.{IfOk, Result, Ok, Err, slice_index_or}
-use Rattle.std.proofs.Common.{◌≡◌, ◌<◌, ◌+◌, ◌-◌, ℕ, List, length, ap, sym, ◌∙◌, subst, arith}
-use Rattle.std.proofs.lemmas.Option.{slice_get-get_or}
-use Rattle.snap_fits.specs.Fits.{Front, Setting}
-use Rattle.snap_model.specs.History.{IsLegal, after}
-use Rattle.snap_model.specs.declared.command.Command.{Command}
-use Rattle.snap_steps.specs.Ending.{Ended, IsLastState}
-use Rattle.snap_steps.specs.Seen.{Known}
-use Rattle.snap_service.specs.Courses.{fronts_of, setting}
+use Rattle.std.proofs.Common.{◌≡◌, ◌<◌, ◌+◌, ◌-◌, ℕ, List, length, ap, sym, ◌∙◌, subst, arith, IfOk, Result, Ok, Err, slice_index_or}
+use Rattle.snap_prelude.proofs.Common.{slice_get-get_or}
+use Rattle.snap_fits.specs.Fits.{Front}
+use Rattle.snap_prelude.specs.{after, Command, Ended, IsLastState, IsLegal, Known}
+use Rattle.snap_service.specs.Prelude.{AreTables, new_kit, opened, setting, State, Tables}
 use Rattle.snap_text.specs.LoadFiles.{Loads}
-use Rattle.snap_service.specs.States.{AreSeated, AreTables, State, Tables, new_kit, opened}
-use Rattle.snap_crew.specs.Endings.{AreEnded, IsTrue, setting_of}
-use Rattle.snap_crew.specs.Jobs.{IsHanded, IsJob}
-use Rattle.snap_crew.specs.Works.{CanWork, HasFit, HasWorked, commands_of}
-use Rattle.snap_crew.specs.declared.answers.Answers.{Answers}
-use Rattle.snap_crew.specs.declared.crew.Done.{Done}
-use Rattle.snap_crew.specs.declared.crew.Job.{Job}
+use Rattle.snap_crew.specs.Prelude.{Answers, AreEnded, CanWork, commands_of, Done, HasFit}
+use Rattle.snap_crew.specs.Prelude.{HasWorked, IsHanded, IsJob, IsTrue, Job, setting_of}
 
 -- the session of worker i as it begins
 abbrev begin : Tables → ℕ → State

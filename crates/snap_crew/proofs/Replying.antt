@@ -1,70 +1,64 @@
 -- Each command is served with one of its replies, and exports the text of what is exported.
-use Rattle.std.specs.Prelude.{◌⊎◌, IsSome, map}
-use Rattle.std.proofs.Common.{◌≡◌, ◌≤◌, ◌+◌, ◌++◌, ℕ, List, [], ◌∷◌, Option, Some, None, length, inl, inr, refl, ap, sym, ◌∙◌, subst, arith, append_assoc, append-nil}
+use Rattle.std.proofs.Common.{◌≡◌, ◌≤◌, ◌+◌, ◌++◌, ℕ, List, [], ◌∷◌, Option, Some, None, length, inl, inr, refl, ap, sym, ◌∙◌, subst, arith, append_assoc, append-nil, ◌⊎◌, IsSome, map}
 use Rattle.snap_fits.specs.Fits.{Told, put_reply, remove_reply, value_reply, pair_reply}
 use Rattle.snap_fits.specs.Sessions.{exported, exported_from}
-use Rattle.snap_model.specs.SortedMap.{Pairs, range}
-use Rattle.snap_model.specs.declared.command.Command.{Command}
-use Rattle.snap_model.specs.declared.command.Command.TheVariants as command
-use Rattle.snap_model.specs.declared.command.Reply.{Reply}
-use Rattle.snap_model.specs.declared.command.Reply.TheVariants as reply
-use Rattle.snap_steps.specs.Clones.{Cloned}
+use Rattle.snap_prelude.specs.{Cloned, Command, range, Reply}
 use Rattle.snap_text.specs.Replies.{IsReplyOf, reply_text}
 use Rattle.snap_text.specs.Tables.{table_text}
-use Rattle.snap_service.specs.Courses.{course, kept}
+use Rattle.snap_service.specs.Prelude.{CanRun, clone_at, course, kept, map_in}
+use Rattle.snap_service.specs.Prelude.{Measured, Serves, State, text_of}
 use Rattle.snap_text.specs.LoadFiles.{Loads}
-use Rattle.snap_service.specs.Serving.{CanRun, Measured, Serves, map_in, text_of}
-use Rattle.snap_service.specs.States.{State, clone_at}
-use Rattle.snap_crew.specs.Answers.{exported_file, full_of, fulls_of, fulls_with, lines_of, lines_with, table_files}
+use Rattle.snap_crew.specs.Prelude.{exported_file, full_of, fulls_of, fulls_with}
+use Rattle.snap_crew.specs.Prelude.{lines_of, lines_with, table_files}
 
-put_is : (k v : ℕ) (r : Reply) (was : Option ℕ) → r ≡ put_reply was → IsReplyOf (command.Put k v) r
-put_is k v r None e = subst (IsReplyOf (command.Put k v)) (sym e) tt
-put_is k v r (Some x) e = subst (IsReplyOf (command.Put k v)) (sym e) tt
+put_is : (k v : ℕ) (r : Reply) (was : Option ℕ) → r ≡ put_reply was → IsReplyOf (Command.Put k v) r
+put_is k v r None e = subst (IsReplyOf (Command.Put k v)) (sym e) tt
+put_is k v r (Some x) e = subst (IsReplyOf (Command.Put k v)) (sym e) tt
 
-remove_is : (k : ℕ) (r : Reply) (was : Option ℕ) → r ≡ remove_reply was → IsReplyOf (command.Remove k) r
-remove_is k r None e = subst (IsReplyOf (command.Remove k)) (sym e) tt
-remove_is k r (Some x) e = subst (IsReplyOf (command.Remove k)) (sym e) tt
+remove_is : (k : ℕ) (r : Reply) (was : Option ℕ) → r ≡ remove_reply was → IsReplyOf (Command.Remove k) r
+remove_is k r None e = subst (IsReplyOf (Command.Remove k)) (sym e) tt
+remove_is k r (Some x) e = subst (IsReplyOf (Command.Remove k)) (sym e) tt
 
-of_value : (c : Command) (r : Reply) (x : Option ℕ) → IsReplyOf c reply.Absent → ((v : ℕ) → IsReplyOf c (reply.Value v)) → r ≡ value_reply x → IsReplyOf c r
+of_value : (c : Command) (r : Reply) (x : Option ℕ) → IsReplyOf c Reply.Absent → ((v : ℕ) → IsReplyOf c (Reply.Value v)) → r ≡ value_reply x → IsReplyOf c r
 of_value c r None absent some e = subst (IsReplyOf c) (sym e) absent
 of_value c r (Some v) absent some e = subst (IsReplyOf c) (sym e) (some v)
 
-of_pair : (c : Command) (r : Reply) (x : Option (ℕ × ℕ)) → IsReplyOf c reply.Absent → ((k v : ℕ) → IsReplyOf c (reply.Pair k v)) → r ≡ pair_reply x → IsReplyOf c r
+of_pair : (c : Command) (r : Reply) (x : Option (ℕ × ℕ)) → IsReplyOf c Reply.Absent → ((k v : ℕ) → IsReplyOf c (Reply.Pair k v)) → r ≡ pair_reply x → IsReplyOf c r
 of_pair c r None absent some e = subst (IsReplyOf c) (sym e) absent
 of_pair c r (Some p) absent some e = subst (IsReplyOf c) (sym e) (some p.0 p.1)
 
-measured_reply : (a b : State) (n : ℕ) (c : Option (ℕ × Cloned)) (r : Reply) → Measured c a r b → IsReplyOf (command.Depth n) r
+measured_reply : (a b : State) (n : ℕ) (c : Option (ℕ × Cloned)) (r : Reply) → Measured c a r b → IsReplyOf (Command.Depth n) r
 measured_reply a b n None r h = absurd h
-measured_reply a b n (Some live) r h = subst (IsReplyOf (command.Depth n)) (sym h.3.reply) tt
+measured_reply a b n (Some live) r h = subst (IsReplyOf (Command.Depth n)) (sym h.3.reply) tt
 
 -- each command is served with one of its replies
 pub serves_reply : (loads : Loads) (a b : State) (c : Command) (r : Reply) → Serves loads a c r b → IsReplyOf c r
-serves_reply loads a b (command.Table name) r h = subst (IsReplyOf (command.Table name)) (sym h.0) tt
-serves_reply loads a b (command.Put k v) r h = elim h.2 [
+serves_reply loads a b (Command.Table name) r h = subst (IsReplyOf (Command.Table name)) (sym h.0) tt
+serves_reply loads a b (Command.Put k v) r h = elim h.2 [
   | inl z ↦ put_is k v r z.0 z.1
-  | inr z ↦ subst (IsReplyOf (command.Put k v)) (sym z.0) tt
+  | inr z ↦ subst (IsReplyOf (Command.Put k v)) (sym z.0) tt
 ]
-serves_reply loads a b (command.Remove k) r h = elim h.2 [
+serves_reply loads a b (Command.Remove k) r h = elim h.2 [
   | inl z ↦ remove_is k r z.0 z.1
-  | inr z ↦ subst (IsReplyOf (command.Remove k)) (sym z.0) tt
+  | inr z ↦ subst (IsReplyOf (Command.Remove k)) (sym z.0) tt
 ]
-serves_reply loads a b (command.Get k) r h = of_value (command.Get k) r h.2 tt (λ v. tt) h.3
-serves_reply loads a b (command.Load file) r h = elim h.2 [
-  | inl z ↦ subst (IsReplyOf (command.Load file)) (sym z.0) tt
-  | inr z ↦ subst (IsReplyOf (command.Load file)) (sym z.2) tt
+serves_reply loads a b (Command.Get k) r h = of_value (Command.Get k) r h.2 tt (λ v. tt) h.3
+serves_reply loads a b (Command.Load file) r h = elim h.2 [
+  | inl z ↦ subst (IsReplyOf (Command.Load file)) (sym z.0) tt
+  | inr z ↦ subst (IsReplyOf (Command.Load file)) (sym z.2) tt
 ]
-serves_reply loads a b (command.Snap n name) r h = subst (IsReplyOf (command.Snap n name)) (sym h.0) tt
-serves_reply loads a b (command.Forget n name) r h = subst (IsReplyOf (command.Forget n name)) (sym h.0) tt
-serves_reply loads a b (command.See n k) r h = of_value (command.See n k) r _ tt (λ v. tt) h.1
-serves_reply loads a b (command.First n) r h = of_pair (command.First n) r _ tt (λ k v. tt) h.1
-serves_reply loads a b (command.Last n) r h = of_pair (command.Last n) r _ tt (λ k v. tt) h.1
-serves_reply loads a b (command.Floor n k) r h = of_pair (command.Floor n k) r _ tt (λ k v. tt) h.1
-serves_reply loads a b (command.Lower n k) r h = of_pair (command.Lower n k) r _ tt (λ k v. tt) h.1
-serves_reply loads a b (command.Ceiling n k) r h = of_pair (command.Ceiling n k) r _ tt (λ k v. tt) h.1
-serves_reply loads a b (command.Higher n k) r h = of_pair (command.Higher n k) r _ tt (λ k v. tt) h.1
-serves_reply loads a b (command.Count n lo hi) r h = subst (IsReplyOf (command.Count n lo hi)) (sym h.1) tt
-serves_reply loads a b (command.Export n lo hi file) r h = subst (IsReplyOf (command.Export n lo hi file)) (sym h.1) tt
-serves_reply loads a b (command.Depth n) r h = measured_reply a b n (clone_at a n) r h
+serves_reply loads a b (Command.Snap n name) r h = subst (IsReplyOf (Command.Snap n name)) (sym h.0) tt
+serves_reply loads a b (Command.Forget n name) r h = subst (IsReplyOf (Command.Forget n name)) (sym h.0) tt
+serves_reply loads a b (Command.See n k) r h = of_value (Command.See n k) r _ tt (λ v. tt) h.1
+serves_reply loads a b (Command.First n) r h = of_pair (Command.First n) r _ tt (λ k v. tt) h.1
+serves_reply loads a b (Command.Last n) r h = of_pair (Command.Last n) r _ tt (λ k v. tt) h.1
+serves_reply loads a b (Command.Floor n k) r h = of_pair (Command.Floor n k) r _ tt (λ k v. tt) h.1
+serves_reply loads a b (Command.Lower n k) r h = of_pair (Command.Lower n k) r _ tt (λ k v. tt) h.1
+serves_reply loads a b (Command.Ceiling n k) r h = of_pair (Command.Ceiling n k) r _ tt (λ k v. tt) h.1
+serves_reply loads a b (Command.Higher n k) r h = of_pair (Command.Higher n k) r _ tt (λ k v. tt) h.1
+serves_reply loads a b (Command.Count n lo hi) r h = subst (IsReplyOf (Command.Count n lo hi)) (sym h.1) tt
+serves_reply loads a b (Command.Export n lo hi file) r h = subst (IsReplyOf (Command.Export n lo hi file)) (sym h.1) tt
+serves_reply loads a b (Command.Depth n) r h = measured_reply a b n (clone_at a n) r h
 
 of_slot : (o : Option (ℕ × Cloned)) (lo hi : ℕ) (file : List ℕ) → IsSome o → (file, table_text (range (map_in o) lo hi)) ∷ [] ≡ table_files (exported_from (kept o) lo hi file)
 of_slot None lo hi file some = absurd cc
@@ -72,23 +66,23 @@ of_slot (Some live) lo hi file some = refl
 
 -- the text that a command exports is that of what it exports
 pub file_exported : (s : State) (loads : Loads) (w : ℕ) (c : Command) → CanRun s loads c → exported_file c (text_of s c) ≡ table_files (exported (course w s) c)
-file_exported s loads w (command.Table name) can = refl
-file_exported s loads w (command.Put key value) can = refl
-file_exported s loads w (command.Remove key) can = refl
-file_exported s loads w (command.Get key) can = refl
-file_exported s loads w (command.Snap slot name) can = refl
-file_exported s loads w (command.Forget slot name) can = refl
-file_exported s loads w (command.See slot key) can = refl
-file_exported s loads w (command.First slot) can = refl
-file_exported s loads w (command.Last slot) can = refl
-file_exported s loads w (command.Floor slot key) can = refl
-file_exported s loads w (command.Lower slot key) can = refl
-file_exported s loads w (command.Ceiling slot key) can = refl
-file_exported s loads w (command.Higher slot key) can = refl
-file_exported s loads w (command.Count slot lo hi) can = refl
-file_exported s loads w (command.Depth slot) can = refl
-file_exported s loads w (command.Export slot lo hi file) can = of_slot (clone_at s slot) lo hi file can
-file_exported s loads w (command.Load file) can = refl
+file_exported s loads w (Command.Table name) can = refl
+file_exported s loads w (Command.Put key value) can = refl
+file_exported s loads w (Command.Remove key) can = refl
+file_exported s loads w (Command.Get key) can = refl
+file_exported s loads w (Command.Snap slot name) can = refl
+file_exported s loads w (Command.Forget slot name) can = refl
+file_exported s loads w (Command.See slot key) can = refl
+file_exported s loads w (Command.First slot) can = refl
+file_exported s loads w (Command.Last slot) can = refl
+file_exported s loads w (Command.Floor slot key) can = refl
+file_exported s loads w (Command.Lower slot key) can = refl
+file_exported s loads w (Command.Ceiling slot key) can = refl
+file_exported s loads w (Command.Higher slot key) can = refl
+file_exported s loads w (Command.Count slot lo hi) can = refl
+file_exported s loads w (Command.Depth slot) can = refl
+file_exported s loads w (Command.Export slot lo hi file) can = of_slot (clone_at s slot) lo hi file can
+file_exported s loads w (Command.Load file) can = refl
 
 -- one command more
 pub lines_more : (cs : List Command) (rs : List Reply) (c : Command) (r : Reply) → length cs ≡ length rs → lines_with (cs ++ c ∷ []) (rs ++ r ∷ []) ≡ lines_with cs rs ++ reply_text c r
@@ -102,20 +96,20 @@ fulls_more [] r = omega arith
 fulls_more (x ∷ rs) r = omega (arith, fulls_more rs r)
 
 one_full : (r : Reply) → full_of r ≤ 1
-one_full reply.New = omega arith
-one_full (reply.Old v) = omega arith
-one_full reply.Absent = omega arith
-one_full (reply.Value v) = omega arith
-one_full (reply.Pair k v) = omega arith
-one_full (reply.Count n) = omega arith
-one_full (reply.Depth d p s) = omega arith
-one_full (reply.Exported n) = omega arith
-one_full (reply.Loaded n) = omega arith
-one_full reply.Full = omega arith
-one_full (reply.FullAfter n) = omega arith
-one_full reply.Snapped = omega arith
-one_full reply.Forgotten = omega arith
-one_full reply.Using = omega arith
+one_full Reply.New = omega arith
+one_full (Reply.Old v) = omega arith
+one_full Reply.Absent = omega arith
+one_full (Reply.Value v) = omega arith
+one_full (Reply.Pair k v) = omega arith
+one_full (Reply.Count n) = omega arith
+one_full (Reply.Depth d p s) = omega arith
+one_full (Reply.Exported n) = omega arith
+one_full (Reply.Loaded n) = omega arith
+one_full Reply.Full = omega arith
+one_full (Reply.FullAfter n) = omega arith
+one_full Reply.Snapped = omega arith
+one_full Reply.Forgotten = omega arith
+one_full Reply.Using = omega arith
 
 pub few_fulls : (rs : List Reply) → fulls_with rs ≤ length rs
 few_fulls [] = omega arith

@@ -1,25 +1,14 @@
 -- A kit to which every worker's was admitted speaks for all numbers, and what each worker did fits the closed tables.
-use native.Mathlib.Decide.{ℕ_discrete}
-use mathlib.Core.Logic.{dite}
-use Rattle.std.specs.Prelude.{map, slice_index_or}
-use Rattle.std.proofs.Common.{◌≡◌, ◌<◌, ◌+◌, ℕ, List, [], ◌∷◌, ◌++◌, length, ap, sym, subst, ◌∙◌, arith}
+use Rattle.snap_prelude.proofs.Common.{dite, one_same, ℕ_discrete}
+use Rattle.std.proofs.Common.{◌≡◌, ◌<◌, ◌+◌, ℕ, List, [], ◌∷◌, ◌++◌, length, ap, sym, subst, ◌∙◌, arith, map, slice_index_or}
 use Rattle.snap_fits.specs.Fits.{Front, Setting, Told, WorkerFits}
-use Rattle.snap_model.specs.SortedMap.{Pairs}
-use Rattle.snap_model.specs.declared.command.Command.{Command}
-use Rattle.snap_model.specs.declared.command.Reply.{Reply}
-use Rattle.snap_steps.specs.Counting.{times}
-use Rattle.snap_steps.specs.Ending.{Ended}
-use Rattle.snap_steps.specs.Numbers.{numbers, numbers_of, admitted_of}
-use Rattle.snap_steps.specs.Roles.{own_number}
-use Rattle.snap_steps.specs.Seen.{Known}
-use Rattle.snap_steps.proofs.Totals.{one_same}
-use Rattle.snap_service.specs.Courses.{fronts_of, setting}
-use Rattle.snap_service.specs.Kits.{Admits, AdmitsAll, FitsAll, IsUncut}
-use Rattle.snap_service.specs.States.{AreSeated, AreTables, Tables, pass_at}
+use Rattle.snap_prelude.specs.{admitted_of, Command, Ended, Known, numbers}
+use Rattle.snap_prelude.specs.{numbers_of, own_number, Pairs, Reply, times}
+use Rattle.snap_service.specs.Prelude.{Admits, AdmitsAll, AreSeated, AreTables, FitsAll}
+use Rattle.snap_service.specs.Prelude.{fronts_of, IsUncut, pass_at, setting, Tables}
 use Rattle.snap_service.proofs.Covered.{listed_number}
-use Rattle.snap_crew.specs.Answers.{AreOf, lines_with, fulls_with, table_files}
-use Rattle.snap_crew.specs.Works.{FitsIf, HasFit, IsNumbered}
-use Rattle.snap_crew.specs.declared.answers.Answers.{Answers}
+use Rattle.snap_crew.specs.Prelude.{Answers, AreOf, FitsIf, fulls_with, HasFit}
+use Rattle.snap_crew.specs.Prelude.{IsNumbered, lines_with, table_files}
 use Rattle.snap_crew.proofs.Replying.{fulls_told, lines_told}
 
 pub all_speak : (tables : Tables) (own : List Known) (receipts : List (List Known)) → AreTables tables → AreSeated tables own → IsUncut tables own → tables.kits ≡ length receipts + 1

@@ -1,24 +1,19 @@
 -- A worker's loop: one command more.
-use Rattle.std.specs.Prelude.{map}
 use Rattle.std.proofs.Common.{◌≡◌, ◌≤◌, ◌<◌, ◌+◌, ◌*◌, ◌^◌, ◌++◌, ℕ, List, [], ◌∷◌, length, get_or, take, drop, refl, ap, sym, ◌∙◌, subst, arith}
-use Rattle.std.proofs.lemmas.List.{drop_more, get_or-map, length-map, length-take-le, length_push, map-append, take_all, take_more}
+use Rattle.snap_prelude.proofs.Common.{drop_more, get_or-map, length-map, length-take-le}
+use Rattle.snap_prelude.proofs.Common.{length_push, map-append, take_all, take_more}
 use Rattle.snap_fits.specs.Sessions.{exported}
-use Rattle.snap_model.specs.SortedMap.{Pairs}
-use Rattle.snap_model.specs.declared.command.Command.{Command}
-use Rattle.snap_model.specs.declared.command.Reply.{Reply}
+use Rattle.snap_prelude.specs.{Command, Known, Pairs, Reply}
 use Rattle.snap_text.specs.Replies.{reply_text}
 use Rattle.snap_text.specs.Tables.{table_text}
 use Rattle.snap_text.specs.declared.script.Line.{Line}
-use Rattle.snap_steps.specs.Seen.{Known}
-use Rattle.snap_service.specs.Courses.{course}
+use Rattle.snap_service.specs.Prelude.{CanRun, CanRunAll, course, HasServed}
+use Rattle.snap_service.specs.Prelude.{most_uses, Serves, ServesOn, State, text_of}
 use Rattle.snap_text.specs.LoadFiles.{Loads}
-use Rattle.snap_service.specs.Runs.{CanRunAll, HasServed, ServesOn}
-use Rattle.snap_service.specs.Serving.{CanRun, Serves, text_of}
-use Rattle.snap_service.specs.States.{State, most_uses}
 use Rattle.snap_service.proofs.Admitting.{number_is}
-use Rattle.snap_crew.specs.Answers.{AreOf, exported_file, full_of, fulls_with, lines_with, table_files}
-use Rattle.snap_crew.specs.Works.{CanWork, HasRun, HasWorked, IsNumbered, ServesAll, commands_of}
-use Rattle.snap_crew.specs.declared.answers.Answers.{Answers}
+use Rattle.snap_crew.specs.Prelude.{Answers, AreOf, CanWork, commands_of}
+use Rattle.snap_crew.specs.Prelude.{exported_file, full_of, HasRun, HasWorked}
+use Rattle.snap_crew.specs.Prelude.{IsNumbered, lines_with, ServesAll, table_files}
 use Rattle.snap_crew.proofs.Replying.{few_fulls, file_exported, fulls_more, lines_more}
 
 -- one more was run behind those that were

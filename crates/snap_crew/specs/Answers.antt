@@ -1,11 +1,8 @@
--- What a worker's commands come to: the text of their replies, the files of their exports, and how many replies are full.
+-- What a worker's commands come to: the text of their replies, the files of their exports, and how
+-- many replies are full.
 use Rattle.std.specs.Prelude.{◌≡◌, ◌+◌, ◌++◌, ℕ, List, [], ◌∷◌, map}
 use Rattle.snap_fits.specs.Fits.{Setting, Front, Told, exports_of, start}
-use Rattle.snap_model.specs.SortedMap.{Pairs}
-use Rattle.snap_model.specs.declared.command.Command.{Command}
-use Rattle.snap_model.specs.declared.command.Command.TheVariants as command
-use Rattle.snap_model.specs.declared.command.Reply.{Reply}
-use Rattle.snap_model.specs.declared.command.Reply.TheVariants as reply
+use Rattle.snap_prelude.specs.{Command, Pairs, Reply}
 use Rattle.snap_text.specs.Replies.{reply_text}
 use Rattle.snap_text.specs.Tables.{table_text}
 use Rattle.snap_write.specs.Outputs.{Outputs}
@@ -13,13 +10,13 @@ use Rattle.snap_crew.specs.declared.answers.Answers.{Answers}
 
 -- one for a reply that tells of a full table
 abbrev pub full_of : Reply → ℕ
-full_of reply.Full = 1
-full_of (reply.FullAfter n) = 1
+full_of Reply.Full = 1
+full_of (Reply.FullAfter n) = 1
 full_of _ = 0
 
 -- an export's file with its text
 abbrev pub exported_file : Command → List ℕ → Outputs
-exported_file (command.Export slot lo hi file) text = (file, text) ∷ []
+exported_file (Command.Export slot lo hi file) text = (file, text) ∷ []
 exported_file _ text = []
 
 -- the files of exported pairs
@@ -36,7 +33,8 @@ fulls_with [] = 0
 fulls_with (r ∷ rs) = full_of r + fulls_with rs
 
 -- the answers are of these commands, replies and exports
-pub record AreOf (commands : List Command) (replies : List Reply) (exports : List (List ℕ × Pairs)) (answers : Answers) : Type 0 where
+pub record AreOf (commands : List Command) (replies : List Reply) (exports : List (List ℕ × Pairs))
+    (answers : Answers) : Type 0 where
   pub lines : answers.lines.items ≡ lines_with commands replies
   pub files : answers.exports.items ≡ table_files exports
   pub full : answers.full ≡ fulls_with replies
@@ -53,7 +51,8 @@ fulls_of (t ∷ ts) = full_of t.reply + fulls_of ts
 abbrev pub files_of : Setting → (ℕ → Front) → List Told → Outputs
 files_of s fronts told = table_files (exports_of s fronts start told)
 
-pub record AreTold (s : Setting) (fronts : ℕ → Front) (told : List Told) (answers : Answers) : Type 0 where
+pub record AreTold (s : Setting) (fronts : ℕ → Front) (told : List Told)
+    (answers : Answers) : Type 0 where
   pub lines : answers.lines.items ≡ lines_of told
   pub files : answers.exports.items ≡ files_of s fronts told
   pub full : answers.full ≡ fulls_of told

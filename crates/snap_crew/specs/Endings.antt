@@ -1,22 +1,21 @@
--- What is known at the end of a run: of the closed tables, of each worker, and of the text of the first table.
+-- What is known at the end of a run: of the closed tables, of each worker, and of the text of the
+-- first table.
 use Rattle.std.specs.Prelude.{◌≡◌, ◌<◌, ◌≤◌, ◌-◌, ℕ, Bool, true, false, List, [], Option, Some, None, Vec, ⊤, length, slice_index_or, unwrap_or}
 use Rattle.std.specs.Global.{Global}
 use Rattle.snap_fits.specs.Fits.{Front, Setting}
-use Rattle.snap_model.specs.History.{IsLegal, after}
-use Rattle.snap_steps.specs.Ending.{Ended, IsLastState}
-use Rattle.snap_steps.specs.Seen.{Known}
+use Rattle.snap_prelude.specs.{after, Ended, IsLastState, IsLegal, Known}
 use Rattle.snap_text.specs.Tables.{table_text}
 use Rattle.snap_text.specs.declared.script.Line.{Line}
-use Rattle.snap_service.specs.Courses.{fronts_of}
-use Rattle.snap_service.specs.Kits.{Admits, AreClosed, OnlyWorkers}
+use Rattle.snap_service.specs.Prelude.{Admits, AreClosed, AreSeated, fronts_of}
+use Rattle.snap_service.specs.Prelude.{OnlyWorkers, place_of, Tables}
 use Rattle.snap_text.specs.LoadFiles.{Loads, pairs_of}
-use Rattle.snap_service.specs.States.{AreSeated, Tables, place_of}
 use Rattle.snap_crew.specs.Works.{FitsIf, HasFit, commands_of}
 use Rattle.snap_crew.specs.declared.answers.Answers.{Answers}
 use Rattle.snap_crew.specs.declared.ending.Ending.{Ending}
 use Rattle.snap_crew.specs.declared.scripts.Finished.{Finished}
 
--- a front tells its history truly, and was the table's last state: where it is told as worn, a row's stamp was at its greatest count there
+-- a front tells its history truly, and was the table's last state: where it is told as worn, a
+-- row's stamp was at its greatest count there
 pub record IsTrue (rows : ℕ) (f : Ended) : Type 0 where
   pub legal : IsLegal f.last.view.seen
   pub writes : f.writes ≡ length f.last.view.seen
@@ -36,26 +35,32 @@ IsTextIf true (Some text) f = text.items ≡ table_text (after f.history)
 IsTextIf false None f = ⊤
 IsTextIf _ _ f = ⊥
 
--- only workers made entries and clones; the caller made one clone at most, of the whole first table, where it was wanted
+-- only workers made entries and clones; the caller made one clone at most, of the whole first
+-- table, where it was wanted
 pub record AreWorkers (workers : ℕ) (wanted : Bool) (fronts : List Ended) : Type 0 where
   pub only : (t : ℕ) → OnlyWorkers workers t (fronts_of fronts t)
   pub uncut : wanted ≡ false → (t : ℕ) → (fronts_of fronts t).cuts workers ≡ []
 
 -- how the tables were closed by the caller's kit, to which all others had been admitted
-pub record IsEnding (tables : Tables) (kit : List Known) (wanted : Bool) (ending : Ending) : Type 0 where
-  pub fits : (w : ℕ) (passes : List Known) → AreSeated tables passes → Admits kit passes → FitsIf tables w passes ending.fronts
+pub record IsEnding (tables : Tables) (kit : List Known) (wanted : Bool)
+    (ending : Ending) : Type 0 where
+  pub fits : (w : ℕ) (passes : List Known) → AreSeated tables passes → Admits kit passes
+      → FitsIf tables w passes ending.fronts
   pub workers : AreWorkers (tables.kits - 1) wanted ending.fronts
   pub closed : AreEnded tables ending.fronts
   pub text : IsTextIf wanted ending.last (fronts_of ending.fronts 0)
 
 -- the same with the workers' receipts, in the order of their numbers
-pub record IsEnd (tables : Tables) (receipts : List (List Known)) (wanted : Bool) (ending : Ending) : Type 0 where
-  pub fits : (w : ℕ) (d : List Known) → w < length receipts → FitsIf tables w (slice_index_or receipts w d) ending.fronts
+pub record IsEnd (tables : Tables) (receipts : List (List Known)) (wanted : Bool)
+    (ending : Ending) : Type 0 where
+  pub fits : (w : ℕ) (d : List Known) → w < length receipts
+      → FitsIf tables w (slice_index_or receipts w d) ending.fronts
   pub workers : AreWorkers (length receipts) wanted ending.fronts
   pub closed : AreEnded tables ending.fronts
   pub text : IsTextIf wanted ending.last (fronts_of ending.fronts 0)
 
--- a run as the outcome speaks of it: the rows of a table, the workers, each table's place by its name, each load file's pairs
+-- a run as the outcome speaks of it: the rows of a table, the workers, each table's place by its
+-- name, each load file's pairs
 abbrev pub setting_of : List (List ℕ) → ℕ → Loads → ℕ → Setting
 setting_of names rows loads workers = record {
   rows = rows;
@@ -65,11 +70,14 @@ setting_of names rows loads workers = record {
 }
 
 -- what these scripts came to on new tables of these names
-pub record IsFinished (names : List (List ℕ)) (rows : ℕ) (loads : Loads) (scripts : List (List Line)) (wanted : Bool) (f : Finished) : Type 0 where
+pub record IsFinished (names : List (List ℕ)) (rows : ℕ) (loads : Loads)
+    (scripts : List (List Line)) (wanted : Bool) (f : Finished) : Type 0 where
   pub a_front_each : length f.fronts ≡ length names
-  pub true_fronts : (t : ℕ) (d : Ended) → t < length f.fronts → IsTrue rows (slice_index_or f.fronts t d)
+  pub true_fronts : (t : ℕ) (d : Ended) → t < length f.fronts
+      → IsTrue rows (slice_index_or f.fronts t d)
   pub workers : AreWorkers (length scripts) wanted f.fronts
   pub answers_each : length f.answers.items ≡ length scripts
-  pub fits : (w : ℕ) (d : List Line) (a : Answers) → w < length scripts →
-      HasFit (setting_of names rows loads (length scripts)) (fronts_of f.fronts) w (commands_of (slice_index_or scripts w d)) (slice_index_or f.answers.items w a)
+  pub fits : (w : ℕ) (d : List Line) (a : Answers) → w < length scripts
+      → HasFit (setting_of names rows loads (length scripts)) (fronts_of f.fronts) w
+      (commands_of (slice_index_or scripts w d)) (slice_index_or f.answers.items w a)
   pub text : IsTextIf wanted f.last (fronts_of f.fronts 0)

@@ -3,3 +3,4 @@ pub mod Works
 pub mod Jobs
 pub mod Mirrors
 pub mod Endings
+pub mod Prelude

@@ -1,17 +1,11 @@
 -- What a worker begins with, what it hands over, and what the closed tables make of it.
-use Rattle.std.specs.Prelude.{◌≡◌, ◌<◌, ◌≤◌, ◌+◌, ◌*◌, ◌^◌, ℕ, List, [], ◌∷◌, length, map, unwrap_or}
+use Rattle.std.specs.Prelude.{◌≡◌, ◌<◌, ◌≤◌, ◌+◌, ◌*◌, ◌^◌, ℕ, List, [], ◌∷◌, length, map}
 use Rattle.snap_fits.specs.Fits.{Fits, Front, Setting, Told}
-use Rattle.snap_model.specs.SortedMap.{Pairs}
-use Rattle.snap_model.specs.declared.command.Command.{Command}
-use Rattle.snap_model.specs.declared.command.Reply.{Reply}
-use Rattle.snap_steps.specs.Ending.{Ended}
-use Rattle.snap_steps.specs.Seen.{Known}
+use Rattle.snap_prelude.specs.{Command, Ended, Known, Pairs, Reply}
 use Rattle.snap_text.specs.declared.script.Line.{Line}
-use Rattle.snap_service.specs.Courses.{fronts_of, setting}
+use Rattle.snap_service.specs.Prelude.{AreSeated, CanRunAll, fronts_of, HasServed}
+use Rattle.snap_service.specs.Prelude.{most_uses, pass_at, Serves, setting, State, Tables}
 use Rattle.snap_text.specs.LoadFiles.{Loads}
-use Rattle.snap_service.specs.Runs.{CanRunAll, HasServed}
-use Rattle.snap_service.specs.Serving.{Serves}
-use Rattle.snap_service.specs.States.{AreSeated, State, Tables, most_uses, pass_at}
 use Rattle.snap_crew.specs.Answers.{AreOf, AreTold}
 use Rattle.snap_crew.specs.declared.answers.Answers.{Answers}
 
@@ -28,11 +22,14 @@ pub record CanWork (loads : Loads) (w : ℕ) (s : State) (commands : List Comman
 -- each command was run in its turn: by the state that the one before it left, with its own reply
 abbrev pub ServesAll : Loads → State → List Command → List Reply → State → Type 0
 ServesAll loads a [] [] b = b ≡ a
-ServesAll loads a (c ∷ cs) (r ∷ rs) b = (mid : State) × Serves loads a c r mid × ServesAll loads mid cs rs b
+ServesAll loads a (c ∷ cs) (r ∷ rs) b =
+    (mid : State) × Serves loads a c r mid × ServesAll loads mid cs rs b
 ServesAll loads a _ _ b = ⊥
 
--- the session of worker w has run these commands from the first state to the last, and the answers are of their replies and exports
-pub record HasRun (loads : Loads) (w : ℕ) (commands : List Command) (answers : Answers) (first last : State) : Type 0 where
+-- the session of worker w has run these commands from the first state to the last, and the answers
+-- are of their replies and exports
+pub record HasRun (loads : Loads) (w : ℕ) (commands : List Command) (answers : Answers)
+    (first last : State) : Type 0 where
   pub replies : List Reply
   pub exports : List (List ℕ × Pairs)
   pub steps : ServesAll loads first commands replies last
@@ -40,7 +37,8 @@ pub record HasRun (loads : Loads) (w : ℕ) (commands : List Command) (answers :
   pub answered : AreOf commands replies exports answers
 
 -- worker w has run these commands from this state on, and left these passes and answers
-pub record HasWorked (loads : Loads) (w : ℕ) (commands : List Command) (first : State) (passes : List Known) (answers : Answers) : Type 0 where
+pub record HasWorked (loads : Loads) (w : ℕ) (commands : List Command) (first : State)
+    (passes : List Known) (answers : Answers) : Type 0 where
   pub state : State
   pub ran : HasRun loads w commands answers first state
   pub on : state.tables ≡ first.tables
@@ -51,8 +49,10 @@ pub record HasWorked (loads : Loads) (w : ℕ) (commands : List Command) (first 
 abbrev pub IsNumbered : ℕ → List Known → Type 0
 IsNumbered w passes = (t : ℕ) → t < length passes → (pass_at passes t).view.who ≡ w
 
--- at the closed tables the commands of worker w fit, each with its reply at some moment, and the answers tell just that
-pub record HasFit (s : Setting) (fronts : ℕ → Front) (w : ℕ) (commands : List Command) (answers : Answers) : Type 0 where
+-- at the closed tables the commands of worker w fit, each with its reply at some moment, and the
+-- answers tell just that
+pub record HasFit (s : Setting) (fronts : ℕ → Front) (w : ℕ) (commands : List Command)
+    (answers : Answers) : Type 0 where
   pub told : List Told
   pub ran : map (λ (t : Told). t.command) told ≡ commands
   pub fits : Fits s w fronts told
@@ -60,4 +60,7 @@ pub record HasFit (s : Setting) (fronts : ℕ → Front) (w : ℕ) (commands : L
 
 -- what worker w did that left these passes fits the closed tables
 abbrev pub FitsIf : Tables → ℕ → List Known → List Ended → Type 0
-FitsIf tables w passes fronts = (loads : Loads) (cs : List Command) (first : State) (answers : Answers) → first.tables ≡ tables → HasWorked loads w cs first passes answers → HasFit (setting tables loads) (fronts_of fronts) w cs answers
+FitsIf tables w passes fronts = (loads : Loads) (cs : List Command) (first : State)
+    (answers : Answers)
+    → first.tables ≡ tables → HasWorked loads w cs first passes answers
+    → HasFit (setting tables loads) (fronts_of fronts) w cs answers

@@ -43,8 +43,11 @@ impl Answers {
     ) -> Result<(), OutOfMemory>
         requires reply { IsReplyOf command.now reply.now }
         requires few { self.old.full < 2 ^ 63 }
-        ensures lines { OnOk result (self.new.lines.items ≡ self.old.lines.items ++ reply_text command.now reply.now) }
-        ensures exports { OnOk result (self.new.exports.items ≡ self.old.exports.items ++ exported_file command.now text.items) }
+        ensures lines { OnOk result
+            (self.new.lines.items ≡ self.old.lines.items ++ reply_text command.now reply.now) }
+        ensures exports { OnOk result
+            (self.new.exports.items
+            ≡ self.old.exports.items ++ exported_file command.now text.items) }
         ensures full { OnOk result (self.new.full ≡ self.old.full + full_of reply.now) }
     {
         reply_line(alloc, command, reply, &mut self.lines)?;
@@ -61,7 +64,8 @@ fn keep(
     text: Vec<u8>,
     exports: &mut Vec<Output>,
 ) -> Result<(), OutOfMemory>
-    ensures { OnOk result (exports.new.items ≡ exports.old.items ++ exported_file command.now text.items) }
+    ensures { OnOk result
+        (exports.new.items ≡ exports.old.items ++ exported_file command.now text.items) }
 {
     if let Command::Export { file, .. } = command {
         let file = Name::new(alloc, file.text())?;

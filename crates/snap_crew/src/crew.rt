@@ -37,7 +37,9 @@ pub fn do_job<R: Wait, T: Turn>(
     job: Job<'_>,
 ) -> Result<Done, OutOfMemory>
     requires { CanWork loads.now job.who job.session (commands_of job.script.now) }
-    ensures { IfOk result (λ done. HasWorked loads.now job.entry.who (commands_of job.entry.script.now) job.entry.session done.receipt done.answers) }
+    ensures { IfOk result
+        (λ done. HasWorked loads.now job.entry.who
+        (commands_of job.entry.script.now) job.entry.session done.receipt done.answers) }
 {
     let Job {
         mut session,
@@ -59,17 +61,26 @@ pub fn do_all<R: Threads + Wait + Sync, T: Turn + Sync>(
     turn: &T,
     jobs: Vec<Job<'_>>,
 ) -> Result<Vec<Result<Done, OutOfMemory>>, AllocError>
-    requires { (i : ℕ) (e : _) → i < vec_len jobs → CanWork loads.now (slice_index_or jobs.items i e).who (slice_index_or jobs.items i e).session (commands_of (slice_index_or jobs.items i e).script.now) }
+    requires { (i : ℕ) (e : _) → i < vec_len jobs
+        → CanWork loads.now (slice_index_or jobs.items i e).who
+        (slice_index_or jobs.items i e).session
+        (commands_of (slice_index_or jobs.items i e).script.now) }
     ensures len { IfOk result (λ all. vec_len all ≡ vec_len jobs.entry) }
-    ensures each { IfOk result (λ all. (i : ℕ) (d : _) (e : _) → i < vec_len jobs.entry → IfOk (slice_index_or all.items i d) (λ done.
-        HasWorked loads.now (slice_index_or jobs.entry.items i e).who (commands_of (slice_index_or jobs.entry.items i e).script.now) (slice_index_or jobs.entry.items i e).session done.receipt done.answers)) }
+    ensures each { IfOk result
+        (λ all. (i : ℕ) (d : _) (e : _) → i < vec_len jobs.entry
+        → IfOk (slice_index_or all.items i d) (λ done.
+        HasWorked loads.now (slice_index_or jobs.entry.items i e).who
+        (commands_of (slice_index_or jobs.entry.items i e).script.now)
+        (slice_index_or jobs.entry.items i e).session done.receipt done.answers)) }
 {
     thread::map_vec(
         rt,
         jobs,
         &|job: Job<'_>| -> Result<Done, OutOfMemory>
             requires { CanWork loads.now job.who job.session (commands_of job.script.now) }
-            ensures { IfOk result (λ done. HasWorked loads.entry.now job.entry.who (commands_of job.entry.script.now) job.entry.session done.receipt done.answers) }
+            ensures { IfOk result
+                (λ done. HasWorked loads.entry.now job.entry.who
+                (commands_of job.entry.script.now) job.entry.session done.receipt done.answers) }
         { do_job(rt, alloc, loads, turn, job) },
     )
 }

@@ -2,10 +2,9 @@
 ghost use Rattle.std.specs.Prelude.{◌≡◌, ◌<◌, ◌+◌, ◌^◌, ℕ, IfOk, List, false, length, slice_index_or, true};
 ghost use Rattle.snap_crew.specs.Endings.{IsEnd, IsEnding};
 ghost use Rattle.snap_crew.specs.Works.{IsNumbered};
-ghost use Rattle.snap_model.specs.History.{after};
-ghost use Rattle.snap_service.specs.Kits.{Admits, AdmitsAll, IsCallers, IsUncut};
-ghost use Rattle.snap_service.specs.States.{AreSeated, AreTables, pass_at};
-ghost use Rattle.snap_steps.specs.Seen.{Known};
+ghost use Rattle.snap_prelude.specs.{after, Known};
+ghost use Rattle.snap_service.specs.Prelude.{Admits, AdmitsAll, AreSeated};
+ghost use Rattle.snap_service.specs.Prelude.{AreTables, IsCallers, IsUncut, pass_at};
 ghost use Rattle.snap_text.specs.Tables.{table_text};
 
 use snap_model::OutOfMemory;
@@ -35,8 +34,10 @@ pub fn end_run<R: Wait>(
     requires tables { AreTables service }
     requires kit { AreSeated service own }
     requires uncut { IsUncut service own }
-    requires receipts { (i : ℕ) (d : _) → i < length receipts.items → AreSeated service (slice_index_or receipts.items i d) }
-    requires numbered { (i : ℕ) (d : _) → i < length receipts.items → IsNumbered i (slice_index_or receipts.items i d) }
+    requires receipts { (i : ℕ) (d : _) → i < length receipts.items
+        → AreSeated service (slice_index_or receipts.items i d) }
+    requires numbered { (i : ℕ) (d : _) → i < length receipts.items
+        → IsNumbered i (slice_index_or receipts.items i d) }
     requires every_kit { service.kits ≡ length receipts.items + 1 }
     requires uses { (pass_at own 0).view.uses < 2 ^ 48 }
     ensures { IfOk result (IsEnd service receipts.items last) }
@@ -54,11 +55,14 @@ pub fn end_run<R: Wait>(
 fn admit_all(service: &Service, own: &mut Kit, receipts: Vec<KitReceipt>)
     requires kit { AreSeated service.now own.old }
     requires uncut { IsUncut service.now own.old }
-    requires receipts { (i : ℕ) (d : _) → i < length receipts.items → AreSeated service.now (slice_index_or receipts.items i d) }
+    requires receipts { (i : ℕ) (d : _) → i < length receipts.items
+        → AreSeated service.now (slice_index_or receipts.items i d) }
     ensures kit { AreSeated service.now own.new }
     ensures uncut { IsUncut service.now own.new }
-    ensures all { (i : ℕ) (d : _) → i < length receipts.items → Admits own.new (slice_index_or receipts.items i d) }
-    ensures uses { (t : ℕ) → t < length own.old → (pass_at own.new t).view.uses ≡ (pass_at own.old t).view.uses }
+    ensures all { (i : ℕ) (d : _) → i < length receipts.items
+        → Admits own.new (slice_index_or receipts.items i d) }
+    ensures uses { (t : ℕ) → t < length own.old
+        → (pass_at own.new t).view.uses ≡ (pass_at own.old t).view.uses }
 {
     let mut left = receipts;
     while let Some(receipt) = left.pop() {
@@ -114,7 +118,8 @@ fn final_text<R: Wait>(
     requires all { AdmitsAll own.old }
     requires uncut { IsUncut service.now own.old }
     requires uses { (pass_at own.old 0).view.uses < 2 ^ 48 }
-    ensures text { IfOk result (λ text. text.items ≡ table_text (after (pass_at own.new 0).view.seen)) }
+    ensures text { IfOk result
+        (λ text. text.items ≡ table_text (after (pass_at own.new 0).view.seen)) }
     ensures kit { AreSeated service.now own.new }
     ensures all { AdmitsAll own.new }
     ensures keeps { (other : List Known) → Admits own.old other → Admits own.new other }

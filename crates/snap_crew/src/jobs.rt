@@ -2,7 +2,7 @@
 ghost use Rattle.std.specs.Prelude.{◌≡◌, ◌<◌, ℕ, IfOk, length, slice_index_or};
 ghost use Rattle.snap_crew.specs.Jobs.{IsJob, IsScript};
 ghost use Rattle.snap_crew.specs.Works.{commands_of};
-ghost use Rattle.snap_service.specs.States.{AreTables, new_kit};
+ghost use Rattle.snap_service.specs.Prelude.{AreTables, new_kit};
 
 use crate::crew::Job;
 use snap_model::OutOfMemory;
@@ -20,11 +20,16 @@ pub fn open_jobs<'t>(
 ) -> Result<Vec<Job<'t>>, OutOfMemory>
     requires tables { AreTables service.now }
     requires a_kit_each { length kits.items ≡ length scripts.now }
-    requires kits { (i : ℕ) (d : _) → i < length scripts.now → slice_index_or kits.items i d ≡ new_kit service.now.laid i }
-    requires scripts { (i : ℕ) (d : _) → i < length scripts.now → IsScript service.now.names loads.now (commands_of (slice_index_or scripts.now i d)) }
+    requires kits { (i : ℕ) (d : _) → i < length scripts.now
+        → slice_index_or kits.items i d ≡ new_kit service.now.laid i }
+    requires scripts { (i : ℕ) (d : _) → i < length scripts.now
+        → IsScript service.now.names loads.now (commands_of (slice_index_or scripts.now i d)) }
     requires few { length scripts.now < 33 }
     ensures many { IfOk result (λ jobs. length jobs.items ≡ length scripts.now) }
-    ensures each { IfOk result (λ jobs. (i : ℕ) (d : _) (e : _) → i < length scripts.now → IsJob loads.now service.now (commands_of (slice_index_or scripts.now i d)) i (slice_index_or jobs.items i e)) }
+    ensures each { IfOk result
+        (λ jobs. (i : ℕ) (d : _) (e : _) → i < length scripts.now
+        → IsJob loads.now service.now (commands_of (slice_index_or scripts.now i d)) i
+        (slice_index_or jobs.items i e)) }
 {
     let mut jobs = Vec::new(alloc);
     let mut left = kits;

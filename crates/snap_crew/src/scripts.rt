@@ -3,7 +3,7 @@ ghost use Rattle.std.specs.Prelude.{◌≡◌, ◌<◌, ℕ, IfOk, length, slice
 ghost use Rattle.snap_crew.specs.Endings.{IsFinished};
 ghost use Rattle.snap_crew.specs.Jobs.{IsHanded, IsScript, IsTask};
 ghost use Rattle.snap_crew.specs.Works.{HasWorked, commands_of};
-ghost use Rattle.snap_service.specs.States.{AreTables, new_kit, opened};
+ghost use Rattle.snap_service.specs.Prelude.{AreTables, new_kit, opened};
 
 use crate::answers::Answers;
 use crate::crew::{Done, do_all};
@@ -57,7 +57,9 @@ pub fn run_scripts<R: Threads + Wait + Sync, T: Turn + Sync>(
     turn: &T,
 ) -> Result<Finished, OutOfMemory>
     requires { IsTask task.now.tables.now task.now.rows task.now.loads.now task.now.scripts.now }
-    ensures { IfOk result (IsFinished task.now.tables.now task.now.rows task.now.loads.now task.now.scripts.now task.now.last) }
+    ensures { IfOk result
+        (IsFinished task.now.tables.now task.now.rows task.now.loads.now task.now.scripts.now
+        task.now.last) }
 {
     let scripts = task.scripts;
     let kits = scripts.len() as u32 + 1;
@@ -87,13 +89,18 @@ fn run_jobs<R: Threads + Wait + Sync, T: Turn + Sync>(
 ) -> Result<Parts, OutOfMemory>
     requires tables { AreTables service.now }
     requires a_kit_each { length kits.items ≡ length scripts.now }
-    requires kits { (i : ℕ) (d : _) → i < length scripts.now → slice_index_or kits.items i d ≡ new_kit service.now.laid i }
-    requires scripts { (i : ℕ) (d : _) → i < length scripts.now → IsScript service.now.names loads.now (commands_of (slice_index_or scripts.now i d)) }
+    requires kits { (i : ℕ) (d : _) → i < length scripts.now
+        → slice_index_or kits.items i d ≡ new_kit service.now.laid i }
+    requires scripts { (i : ℕ) (d : _) → i < length scripts.now
+        → IsScript service.now.names loads.now (commands_of (slice_index_or scripts.now i d)) }
     requires few { length scripts.now < 33 }
     ensures receipts { IfOk result (λ parts. length parts.receipts.items ≡ length scripts.now) }
     ensures answers { IfOk result (λ parts. length parts.answers.items ≡ length scripts.now) }
-    ensures worked { IfOk result (λ parts. (i : ℕ) (s : _) (d : _) (a : _) → i < length scripts.now →
-        HasWorked loads.now i (commands_of (slice_index_or scripts.now i s)) (opened service.now (new_kit service.now.laid i)) (slice_index_or parts.receipts.items i d) (slice_index_or parts.answers.items i a)) }
+    ensures worked { IfOk result
+        (λ parts. (i : ℕ) (s : _) (d : _) (a : _) → i < length scripts.now
+        → HasWorked loads.now i (commands_of (slice_index_or scripts.now i s))
+        (opened service.now (new_kit service.now.laid i)) (slice_index_or parts.receipts.items i d)
+        (slice_index_or parts.answers.items i a)) }
 {
     let jobs = open_jobs(alloc, service, kits, scripts, loads)?;
     let all = do_all(rt, alloc, loads, turn, jobs)?;
@@ -105,8 +112,14 @@ fn run_jobs<R: Threads + Wait + Sync, T: Turn + Sync>(
 fn parted(alloc: Global, all: Vec<Result<Done, OutOfMemory>>) -> Result<Parts, OutOfMemory>
     ensures many_receipts { IfOk result (λ parts. length parts.receipts.items ≡ length all.items) }
     ensures many_answers { IfOk result (λ parts. length parts.answers.items ≡ length all.items) }
-    ensures receipts { IfOk result (λ parts. (i : ℕ) (d : _) (e : _) → i < length all.items → IsHanded (slice_index_or all.items i e) (λ done. slice_index_or parts.receipts.items i d ≡ done.receipt)) }
-    ensures answers { IfOk result (λ parts. (i : ℕ) (d : _) (e : _) → i < length all.items → IsHanded (slice_index_or all.items i e) (λ done. slice_index_or parts.answers.items i d ≡ done.answers)) }
+    ensures receipts { IfOk result
+        (λ parts. (i : ℕ) (d : _) (e : _) → i < length all.items
+        → IsHanded (slice_index_or all.items i e)
+        (λ done. slice_index_or parts.receipts.items i d ≡ done.receipt)) }
+    ensures answers { IfOk result
+        (λ parts. (i : ℕ) (d : _) (e : _) → i < length all.items
+        → IsHanded (slice_index_or all.items i e)
+        (λ done. slice_index_or parts.answers.items i d ≡ done.answers)) }
 {
     let mut receipts = Vec::new(alloc);
     let mut answers = Vec::new(alloc);

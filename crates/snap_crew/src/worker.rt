@@ -22,7 +22,8 @@ pub fn work<R: Wait, T: Turn>(
     turn: &T,
 ) -> Result<Answers, OutOfMemory>
     requires { CanWork loads.now who session.old (commands_of script.now) }
-    ensures ran { IfOk result (λ answers. HasRun loads.now who (commands_of script.now) answers session.old session.new) }
+    ensures ran { IfOk result
+        (λ answers. HasRun loads.now who (commands_of script.now) answers session.old session.new) }
     ensures tables { session.new.tables ≡ session.old.tables }
 {
     let mut answers = Answers::new(alloc);

@@ -1,33 +1,26 @@
 -- A plan that was carried out, from what its workers handed over and what was written and told.
-use Rattle.std.specs.Prelude.{AllPairs, IfSome, MatchResult, OnErr, OnOk, IfErr, IfOk, is_some, map, sum_by, unwrap_or}
-use Rattle.std.specs.Option.{option_or, option_to_list}
-use Rattle.std.proofs.Common.{zero, suc, ◌≡◌, ◌≢◌, ◌⊎◌, ◌<◌, ◌≤◌, ◌+◌, ◌*◌, ◌^◌, ℕ, Bool, true, false, List, [], ◌∷◌, ◌++◌, Option, Some, None, Result, Ok, Err, length, get_or, inl, inr, refl, sym, ◌∙◌, ap, ap₂, subst, append-nil, append_assoc, arith}
-use Rattle.std.proofs.lemmas.List.{length-map}
+use Rattle.snap_prelude.proofs.Common.{length-map, option_to_list}
+use Rattle.std.proofs.Common.{◌≡◌, ◌≢◌, ◌⊎◌, ◌<◌, ◌≤◌, ◌+◌, ◌*◌, ◌^◌, ℕ, List, [], ◌∷◌, ◌++◌, Option, Some, None, length, get_or, inl, inr, refl, sym, ◌∙◌, ap, ap₂, subst, append_assoc, arith, IfSome, is_some, map, unwrap_or}
 use Rattle.std.proofs.lemmas.List.Sums.{sum_by-le}
-use Rattle.snap_fits.specs.Fits.{Fits, Front, Setting, Told}
-use Rattle.snap_io.specs.Causes.{Rose}
-use Rattle.snap_io.specs.Shelves.{Changes, Files}
-use Rattle.snap_model.specs.declared.command.Reply.{Reply}
-use Rattle.snap_steps.specs.Ending.{Ended}
+use Rattle.snap_fits.specs.Fits.{Front, Setting, Told}
 use Rattle.snap_text.specs.declared.script.Line.{Line}
-use Rattle.snap_service.specs.Courses.{fronts_of}
-use Rattle.snap_service.specs.Kits.{OnlyWorkers as ServiceWorkers}
-use Rattle.snap_crew.specs.Answers.{fulls_of, fulls_with}
-use Rattle.snap_crew.specs.Endings.{AreWorkers, IsFinished}
-use Rattle.snap_crew.specs.Works.{HasFit, commands_of}
+use Rattle.snap_service.specs.Prelude.{fronts_of}
+use Rattle.snap_crew.specs.Prelude.{commands_of, fulls_of, HasFit, IsFinished}
 use Rattle.snap_crew.specs.declared.answers.Answers.{Answers}
 use Rattle.snap_crew.specs.declared.scripts.Finished.{Finished}
 use Rattle.snap_crew.proofs.Replying.{few_fulls, fulls_told}
-use Rattle.snap_plan.specs.Needs.{AllNew, all_commands, exports_named}
+use Rattle.snap_plan.specs.Needs.{all_commands, exports_named}
 use Rattle.snap_plan.specs.Runnable.{IsRunnable, files_written}
 use Rattle.snap_plan.specs.declared.plan.Plan.{Plan}
-use Rattle.snap_write.specs.Outputs.{HasBegun, HasWritten, IsUnwritten, Outputs, blank, names_of, text_for}
-use Rattle.snap_run.specs.Files.{answer_files, answer_names, answers_in, export_files, exports_in, last_file, last_in, names_written, outputs, replies_in, reply_files, setting_for}
+use Rattle.snap_write.specs.Outputs.{Outputs, names_of}
+use Rattle.snap_run.specs.Files.{answer_files, answer_names, answers_in, exports_in}
+use Rattle.snap_run.specs.Files.{last_in, names_written, outputs, replies_in, setting_for}
 use Rattle.snap_run.specs.Outcomes.{OnlyWorkers}
 use Rattle.snap_run.specs.Printed.{entries, first_line, fulls, summary, table_lines}
 use Rattle.snap_run.specs.Reports.{fulls_in, lines_in, summary_in}
 use Rattle.snap_run.proofs.Pairs.{Differ, new_differ}
-use Rattle.snap_run.proofs.Told.{AllFit, all_fit, names_append, told_entries, told_exports, told_fits, told_fulls, told_many, told_names, told_ran, told_replies, tolds}
+use Rattle.snap_run.proofs.Told.{AllFit, all_fit, names_append, told_entries, told_exports}
+use Rattle.snap_run.proofs.Told.{told_fulls, told_many, told_names, told_replies, tolds}
 use Rattle.snap_run.proofs.Writes.{last_is, last_names, reply_names}
 
 -- no more replies are full than there are commands

@@ -1,9 +1,7 @@
 -- How a run ends: the status of a stop, by what words and files give; and a plan that was carried out behind its reading.
-use Rattle.std.specs.Prelude.{IfErr, IfSome, IsErr, fold}
-use Rattle.std.proofs.Common.{◌≡◌, ◌⊎◌, ℕ, List, [], ◌∷◌, ◌++◌, Option, Some, None, Result, Ok, Err, inl, inr, refl, sym, subst}
-use Rattle.snap_io.specs.Causes.{Rose}
-use Rattle.snap_io.specs.Shelves.{Files, IfTold}
-use Rattle.snap_model.specs.declared.command.Command.{Command}
+use Rattle.std.proofs.Common.{◌≡◌, ◌⊎◌, ℕ, List, [], ◌∷◌, ◌++◌, Option, Some, None, Result, Ok, Err, inl, inr, refl, sym, subst, IfErr, IfSome, IsErr, fold}
+use Rattle.snap_io.specs.Prelude.{Files, IfTold, Rose}
+use Rattle.snap_prelude.specs.{Command}
 use Rattle.snap_text.specs.Loads.{load_of}
 use Rattle.snap_text.specs.Scripts.{script_of}
 use Rattle.snap_text.specs.declared.fault.PairsFault.{PairsFault}
@@ -18,7 +16,7 @@ use Rattle.snap_words.specs.declared.words.Work.{Work}
 use Rattle.snap_words.specs.declared.words.Work.TheVariants.{Made, Scripts}
 use Rattle.snap_words.specs.declared.words.WordsRefusal.{WordsRefusal}
 use Rattle.snap_plan.specs.Endings.{OfMade, OfMadeWork, checked_scripts, ending_of, ending_of_job, inputs_of, plan_for}
-use Rattle.snap_plan.specs.Inputs.{Input, and_then, as_load, as_script, first_missing, inputs_in, loads_in, meanings, or_load_stop, or_script_stop, scripts_in, unless_missing, with_meaning}
+use Rattle.snap_plan.specs.Inputs.{Input, unless_stopped, as_load, as_script, first_missing, inputs_in, loads_in, meanings, or_load_stop, or_script_stop, scripts_in, unless_missing, with_meaning}
 use Rattle.snap_plan.specs.Needs.{NamedLine, all_commands, limit_of, loads_named, named_lines, passed_from, passed_in, stop_at, unless_passed}
 use Rattle.snap_plan.specs.Stops.{IsOfWords, IsPastWords, IsStopOf, StopsBy, status_of}
 use Rattle.snap_plan.specs.declared.needs.Limit.{Limit}
@@ -26,12 +24,12 @@ use Rattle.snap_plan.specs.declared.plan.Plan.{Plan}
 use Rattle.snap_plan.specs.declared.stop.Stop.{Stop}
 use Rattle.snap_plan.specs.declared.stop.Stop.TheVariants as stop
 use Rattle.snap_write.specs.Outputs.{Outputs}
-use Rattle.snap_run.specs.Outcomes.{HasStatus, IsCarried, IsCutOff, IsUnsaid, Leaves, Whole}
+use Rattle.snap_run.specs.Outcomes.{HasStatus, IsCarried, Leaves, Whole}
 use Rattle.snap_run.specs.Worlds.{World, world}
 use Rattle.snap_run.specs.declared.outcome.Outcome.{Outcome}
 
 -- files don't refuse words
-then_past : {A B : Type 0} (r : Result A Stop) (next : A → Result B Stop) → IfErr r IsPastWords → ((x : A) → IfErr (next x) IsPastWords) → IfErr (and_then r next) IsPastWords
+then_past : {A B : Type 0} (r : Result A Stop) (next : A → Result B Stop) → IfErr r IsPastWords → ((x : A) → IfErr (next x) IsPastWords) → IfErr (unless_stopped r next) IsPastWords
 then_past (Ok x) next past rest = rest x
 then_past (Err s) next past rest = past
 
@@ -66,7 +64,7 @@ meanings_past : {A : Type 0} (meaning : Input → Result A Stop) → ((input : I
 meanings_past meaning past found [] so_far = so_far
 meanings_past meaning past found (input ∷ inputs) so_far =
     meanings_past meaning past (with_meaning meaning found input) inputs
-    (then_past found (λ xs. and_then (meaning input) (λ x. Ok (xs ++ x ∷ []))) so_far (λ xs. then_past (meaning input) (λ x. Ok (xs ++ x ∷ [])) (past input) (λ x. tt)))
+    (then_past found (λ xs. unless_stopped (meaning input) (λ x. Ok (xs ++ x ∷ []))) so_far (λ xs. then_past (meaning input) (λ x. Ok (xs ++ x ∷ [])) (past input) (λ x. tt)))
 
 passed_past : (taken : List (List ℕ)) (before : List Command) (lines : List NamedLine) → IfSome (passed_from taken before lines) IsPastWords
 passed_past taken before [] = tt

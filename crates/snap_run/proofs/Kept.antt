@@ -1,8 +1,7 @@
 -- Files that a run leaves alone.
-use Rattle.std.specs.Prelude.{OnErr, OnOk, unwrap_or}
-use Rattle.std.specs.Option.{option_to_list}
-use Rattle.std.proofs.Common.{◌≡◌, ◌⊎◌, ℕ, Bool, true, false, List, [], ◌∷◌, ◌++◌, Option, Some, None, Result, Ok, Err, inl, inr, refl, sym, ap, subst, ◌∙◌}
-use Rattle.snap_io.specs.Shelves.{Changes, Files, IfTold}
+use Rattle.snap_prelude.proofs.Common.{option_to_list}
+use Rattle.std.proofs.Common.{◌≡◌, ◌⊎◌, ℕ, Bool, true, false, List, [], ◌∷◌, ◌++◌, Option, Some, None, Result, Ok, Err, inl, inr, refl, sym, ap, subst, ◌∙◌, OnErr, OnOk, unwrap_or}
+use Rattle.snap_io.specs.Prelude.{Changes, Files, IfTold}
 use Rattle.snap_plan.specs.Needs.{all_commands, among, exports_named}
 use Rattle.snap_plan.specs.declared.plan.Plan.{Plan}
 use Rattle.snap_plan.specs.declared.stop.Stop.{Stop}

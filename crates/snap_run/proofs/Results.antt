@@ -1,11 +1,8 @@
 -- Facts of results, and of what was written before a failure.
-use Rattle.std.specs.Prelude.{◌||◌, IsErrAnd, IfErr, IfOk, OnErr, OnOk, bytes_eq}
-use Rattle.std.specs.List.{list_any}
-use Rattle.std.proofs.Common.{◌≡◌, ◌≤◌, ℕ, Bool, true, false, List, [], ◌∷◌, ◌++◌, Option, Some, None, inl, inr, Result, Ok, Err, refl, sym, ◌∙◌, ap, subst, arith}
+use Rattle.snap_prelude.proofs.Common.{list_any}
+use Rattle.std.proofs.Common.{◌≡◌, ◌≤◌, ℕ, Bool, true, false, List, ◌∷◌, ◌++◌, Option, Some, None, inl, inr, Result, Ok, Err, refl, sym, ◌∙◌, ap, subst, ◌||◌, IsErrAnd, IfErr, IfOk, OnErr, OnOk, bytes_eq}
 use Rattle.std.proofs.lemmas.List.Folds.{list_any-append}
-use Rattle.snap_io.specs.Causes.{Rose}
-use Rattle.snap_io.specs.Shelves.{Changes, Files}
-use Rattle.snap_io.specs.Sinks.{Puts}
+use Rattle.snap_io.specs.Prelude.{Changes, Files, Puts}
 use Rattle.snap_write.specs.Outputs.{HasBegun, IsUnwritten, Outputs, names_of}
 use Rattle.snap_run.specs.Files.{IsWrittenOr}
 use Rattle.snap_run.specs.Worlds.{Tells}

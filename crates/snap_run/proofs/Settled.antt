@@ -1,10 +1,8 @@
 -- What became of all files, and what a run leaves.
-use Rattle.std.specs.Prelude.{IfErr, OnErr, OnOk, bytes_eq, unwrap_or}
-use Rattle.std.specs.List.{list_any}
-use Rattle.std.specs.Option.{option_map, option_or}
-use Rattle.std.proofs.Common.{◌≡◌, ◌≢◌, ◌⊎◌, ◌≤◌, ℕ, List, [], ◌∷◌, ◌++◌, Option, Some, None, Result, Ok, Err, length, inl, inr, refl, sym, ◌∙◌, ap, subst, append_assoc, arith}
-use Rattle.snap_io.specs.Causes.{Rose}
-use Rattle.snap_io.specs.Shelves.{Changes, Files}
+use Rattle.snap_prelude.proofs.Common.{option_or}
+use Rattle.std.specs.Option.{option_map}
+use Rattle.std.proofs.Common.{◌≡◌, ◌≢◌, ◌⊎◌, ◌≤◌, ℕ, List, [], ◌∷◌, ◌++◌, Option, Some, None, Result, Ok, Err, length, inl, inr, sym, ◌∙◌, ap, subst, append_assoc, IfErr, OnErr, OnOk, unwrap_or}
+use Rattle.snap_io.specs.Prelude.{Changes, Files, Rose}
 use Rattle.snap_crew.specs.declared.answers.Answers.{Answers}
 use Rattle.snap_write.specs.Outputs.{HasBegun, HasFront, HasWritten, IsUnwritten, Outputs, blank, names_of, text_for}
 use Rattle.snap_write.specs.declared.unwritten.Unwritten.{Unwritten}

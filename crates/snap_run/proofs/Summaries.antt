@@ -1,8 +1,7 @@
 -- The lines of a summary, table by table.
-use Rattle.std.specs.Prelude.{slice_get}
-use Rattle.std.proofs.Common.{suc, zero, ◌≡◌, ◌<◌, ◌≤◌, ◌+◌, ℕ, List, [], ◌∷◌, ◌++◌, length, get_or, take, refl, sym, ◌∙◌, ap, ap₂, append_assoc, append-nil, add-one, arith}
-use Rattle.std.proofs.lemmas.List.{take_all}
-use Rattle.snap_steps.specs.Ending.{Ended}
+use Rattle.std.proofs.Common.{suc, zero, ◌≡◌, ◌<◌, ◌≤◌, ◌+◌, ℕ, List, [], ◌∷◌, ◌++◌, length, get_or, take, sym, ◌∙◌, ap, ap₂, append_assoc, append-nil, add-one, arith}
+use Rattle.snap_prelude.proofs.Common.{take_all}
+use Rattle.snap_prelude.specs.{Ended}
 use Rattle.snap_run.specs.Printed.{table_line, table_lines}
 
 lines_more : (names : List (List ℕ)) (fronts : List Ended) (i : ℕ) (name : List ℕ) (f : Ended) → i < length names → i < length fronts → name ≡ get_or names i name → f ≡ get_or fronts i f

@@ -1,26 +1,18 @@
 -- A plan's scripts can be run by workers on new tables.
-use Rattle.std.proofs.Common.{zero, suc, ◌≡◌, ◌≢◌, ◌<◌, ◌≤◌, ◌+◌, ◌-◌, ◌*◌, ◌^◌, ℕ, Bool, true, false, cond, List, [], ◌∷◌, ◌++◌, length, get_or, Option, Some, None, refl, sym, ◌∙◌, ap, subst, arith}
-use Rattle.std.specs.Prelude.{◌||◌, All, find, map, flat_map, fold, filter_map, bytes_eq, IsSome, AllPairs}
-use Rattle.std.specs.List.{cons_option, list_any, position_or_len}
-use Rattle.std.specs.Option.{option_to_list}
-use Rattle.std.proofs.lemmas.Bool.Decides.{nat_tests}
-use Rattle.std.proofs.lemmas.Slice.Eq.{bytes_eq-Decides}
-use Rattle.std.proofs.lemmas.List.{length-map, length-append}
-use Rattle.std.proofs.lemmas.List.Concat.{flat_map-cons}
-use Rattle.snap_model.specs.SortedMap.{Pairs}
-use Rattle.snap_model.specs.declared.command.Command.{Command}
-use Rattle.snap_model.specs.declared.command.Command.TheVariants as command
+use Rattle.std.proofs.Common.{zero, suc, ◌≡◌, ◌≢◌, ◌<◌, ◌≤◌, ◌+◌, ◌-◌, ◌*◌, ◌^◌, ℕ, Bool, true, false, cond, List, [], ◌∷◌, ◌++◌, length, get_or, Option, Some, None, refl, sym, ◌∙◌, ap, subst, arith, ◌||◌, All, find, map, fold, filter_map, bytes_eq, IsSome}
+use Rattle.snap_prelude.proofs.Common.{flat_map-cons, length-append, length-map}
+use Rattle.snap_prelude.proofs.Common.{list_any, nat_tests, option_to_list}
+use Rattle.std.specs.List.{cons_option, position_or_len}
+use Rattle.snap_prelude.specs.{Command, Pairs}
 use Rattle.snap_text.specs.Grammar.{HasValueInRange}
 use Rattle.snap_text.specs.LoadFiles.{Loads, HasFile, file_of, pairs_of}
 use Rattle.snap_text.specs.declared.script.Line.{Line}
-use Rattle.snap_service.specs.Serving.{FitsValue}
-use Rattle.snap_service.specs.States.{place_of}
+use Rattle.snap_service.specs.Prelude.{FitsValue, place_of}
 use Rattle.snap_service.proofs.Scripts.{script_can_run}
 use Rattle.snap_service.proofs.Slots.{AllServed, IsServed}
-use Rattle.snap_crew.specs.Jobs.{IsScript as CanBeRun, IsTask}
-use Rattle.snap_crew.specs.Works.{commands_of}
-use Rattle.snap_plan.specs.Needs.{all_commands, among, load_in, loads_named, main_table, table_in, tables_named, with_name}
-use Rattle.snap_plan.specs.Runnable.{AllInRange, IsRunnable, IsScript}
+use Rattle.snap_crew.specs.Prelude.{commands_of, IsTask}
+use Rattle.snap_plan.specs.Needs.{all_commands, among, load_in, main_table, table_in, with_name}
+use Rattle.snap_plan.specs.Runnable.{AllInRange, IsRunnable}
 use Rattle.snap_plan.specs.declared.plan.Plan.{Plan}
 use Rattle.snap_plan.proofs.Names.{among-push, bytes_same}
 
@@ -146,9 +138,9 @@ served names loads (line ∷ lines) tables files range values = (
 )
   where
     of_command : (c : Command) → IfNamed names (table_in c) → IfNamed (map (λ file. file.0) loads) (load_in c) → HasValueInRange c → IsServed names loads c
-    of_command (command.Table name) table file value = has_place names name table
-    of_command (command.Load name) table file value = (has_file loads name file, file_fits loads name range)
-    of_command (command.Put key v) table file value = omega (arith, value)
+    of_command (Command.Table name) table file value = has_place names name table
+    of_command (Command.Load name) table file value = (has_file loads name file, file_fits loads name range)
+    of_command (Command.Put key v) table file value = omega (arith, value)
     of_command _ table file value = tt
 
 kept_length : (names xs : List (List ℕ)) → 1 ≤ length names → 1 ≤ length (fold with_name names xs)

@@ -1,19 +1,13 @@
 -- What the workers were told, from what each of them handed over.
-use Rattle.std.specs.Prelude.{filter_map, flat_map, map, sum_by}
-use Rattle.std.proofs.Common.{zero, suc, ◌≡◌, ◌<◌, ◌≤◌, ◌+◌, ℕ, List, [], ◌∷◌, ◌++◌, Option, Some, None, length, get_or, refl, sym, ◌∙◌, ap, ap₂, subst, arith}
-use Rattle.std.proofs.lemmas.List.{length-map, map-append}
-use Rattle.std.proofs.lemmas.List.Concat.{flat_map-cons}
+use Rattle.std.proofs.Common.{zero, suc, ◌≡◌, ◌<◌, ◌≤◌, ◌+◌, ℕ, List, [], ◌∷◌, ◌++◌, Option, Some, None, length, get_or, refl, sym, ◌∙◌, ap, ap₂, subst, arith, map, sum_by}
+use Rattle.snap_prelude.proofs.Common.{flat_map-cons, length-map, map-append}
 use Rattle.std.proofs.lemmas.List.Elements.{filter_map-append}
 use Rattle.std.proofs.lemmas.List.Sums.{sum_by-cons}
 use Rattle.snap_fits.specs.Fits.{AtClone, Clone, Fits, Front, Matching, Meets, MeetsAll, Setting, Told, export_at, export_of, exports_of, next, start}
-use Rattle.snap_model.specs.SortedMap.{Pairs}
-use Rattle.snap_model.specs.declared.command.Command.{Command}
-use Rattle.snap_model.specs.declared.command.Command.TheVariants as command
-use Rattle.snap_model.specs.declared.command.Reply.{Reply}
+use Rattle.snap_prelude.specs.{Command, Pairs, Reply}
 use Rattle.snap_text.specs.Tables.{table_text}
 use Rattle.snap_text.specs.declared.script.Line.{Line}
-use Rattle.snap_crew.specs.Answers.{files_of, fulls_of, lines_of, table_files}
-use Rattle.snap_crew.specs.Works.{HasFit, commands_of}
+use Rattle.snap_crew.specs.Prelude.{commands_of, files_of, HasFit, table_files}
 use Rattle.snap_crew.specs.declared.answers.Answers.{Answers}
 use Rattle.snap_plan.specs.Needs.{all_commands, export_in, exports_named}
 use Rattle.snap_write.specs.Outputs.{Outputs, names_of}
@@ -26,23 +20,23 @@ at_clone fronts None m lo hi file P h = absurd h
 at_clone fronts (Some c) m lo hi file P h = refl
 
 one_export : (s : Setting) (w : ℕ) (fronts : ℕ → Front) (q : Matching) (c : Command) (r : Reply) (m : ℕ) → Meets s w fronts q c r m → names_of (table_files (export_of fronts q c)) ≡ exports_named (c ∷ [])
-one_export s w fronts q (command.Table name) r m h = refl
-one_export s w fronts q (command.Put k v) r m h = refl
-one_export s w fronts q (command.Remove k) r m h = refl
-one_export s w fronts q (command.Get k) r m h = refl
-one_export s w fronts q (command.Snap n name) r m h = refl
-one_export s w fronts q (command.Forget n name) r m h = refl
-one_export s w fronts q (command.See n k) r m h = refl
-one_export s w fronts q (command.First n) r m h = refl
-one_export s w fronts q (command.Last n) r m h = refl
-one_export s w fronts q (command.Floor n k) r m h = refl
-one_export s w fronts q (command.Lower n k) r m h = refl
-one_export s w fronts q (command.Ceiling n k) r m h = refl
-one_export s w fronts q (command.Higher n k) r m h = refl
-one_export s w fronts q (command.Count n lo hi) r m h = refl
-one_export s w fronts q (command.Depth n) r m h = refl
-one_export s w fronts q (command.Load file) r m h = refl
-one_export s w fronts q (command.Export n lo hi file) r m h = at_clone fronts (q.clones n) m lo hi file _ h
+one_export s w fronts q (Command.Table name) r m h = refl
+one_export s w fronts q (Command.Put k v) r m h = refl
+one_export s w fronts q (Command.Remove k) r m h = refl
+one_export s w fronts q (Command.Get k) r m h = refl
+one_export s w fronts q (Command.Snap n name) r m h = refl
+one_export s w fronts q (Command.Forget n name) r m h = refl
+one_export s w fronts q (Command.See n k) r m h = refl
+one_export s w fronts q (Command.First n) r m h = refl
+one_export s w fronts q (Command.Last n) r m h = refl
+one_export s w fronts q (Command.Floor n k) r m h = refl
+one_export s w fronts q (Command.Lower n k) r m h = refl
+one_export s w fronts q (Command.Ceiling n k) r m h = refl
+one_export s w fronts q (Command.Higher n k) r m h = refl
+one_export s w fronts q (Command.Count n lo hi) r m h = refl
+one_export s w fronts q (Command.Depth n) r m h = refl
+one_export s w fronts q (Command.Load file) r m h = refl
+one_export s w fronts q (Command.Export n lo hi file) r m h = at_clone fronts (q.clones n) m lo hi file _ h
 
 pub names_append : (xs ys : Outputs) → names_of (xs ++ ys) ≡ names_of xs ++ names_of ys
 names_append xs ys = map-append (λ output. output.0) xs ys

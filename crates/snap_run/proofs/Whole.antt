@@ -1,20 +1,18 @@
 -- The whole of a plan that was carried out.
-use Rattle.std.specs.Prelude.{◌≢◌, ◌<◌, IfErr, IfSome, OnErr, OnOk, is_some, length, slice_index_or, unwrap_or}
-use Rattle.std.specs.Option.{option_to_list}
-use Rattle.std.proofs.Common.{◌≡◌, ◌≤◌, ℕ, Bool, List, [], ◌++◌, Option, None, Result, Ok, Err, refl, sym, ◌∙◌, ap, subst, arith}
-use Rattle.snap_fits.specs.Fits.{Fits, Told}
-use Rattle.snap_io.specs.Causes.{Rose}
-use Rattle.snap_io.specs.Shelves.{Changes, Files}
+use Rattle.snap_prelude.proofs.Common.{option_to_list}
+use Rattle.std.proofs.Common.{◌≡◌, ◌≤◌, ℕ, Bool, List, [], ◌++◌, Option, None, Result, sym, ◌∙◌, ap, subst, arith, ◌≢◌, ◌<◌, IfErr, IfSome, OnErr, OnOk, is_some, length, slice_index_or, unwrap_or}
+use Rattle.snap_fits.specs.Fits.{Fits}
+use Rattle.snap_io.specs.Prelude.{Changes, Files, Rose}
 use Rattle.snap_text.specs.declared.script.Line.{Line}
-use Rattle.snap_service.specs.Courses.{fronts_of}
-use Rattle.snap_crew.specs.Endings.{IsFinished, IsTrue}
+use Rattle.snap_service.specs.Prelude.{fronts_of}
+use Rattle.snap_crew.specs.Prelude.{IsFinished, IsTrue}
 use Rattle.snap_crew.specs.declared.scripts.Finished.{Finished}
 use Rattle.snap_plan.specs.Needs.{all_commands, exports_named}
 use Rattle.snap_plan.specs.Runnable.{IsRunnable, files_written}
 use Rattle.snap_plan.specs.declared.plan.Plan.{Plan}
 use Rattle.snap_write.specs.Outputs.{HasBegun, HasWritten, IsUnwritten, blank}
 use Rattle.snap_write.specs.declared.unwritten.Unwritten.{Unwritten}
-use Rattle.snap_run.specs.Files.{IsAfter, IsWrittenOr, answers_in, last_in, outputs, setting_for}
+use Rattle.snap_run.specs.Files.{IsAfter, answers_in, last_in, outputs, setting_for}
 use Rattle.snap_run.specs.Outcomes.{IsCarried, Leaves, OnlyWorkers}
 use Rattle.snap_run.specs.Printed.{fulls, summary}
 use Rattle.snap_run.specs.Reports.{IsReported, fulls_in, summary_in}
@@ -23,7 +21,7 @@ use Rattle.snap_run.specs.declared.outcome.Outcome.{Outcome}
 use Rattle.snap_run.proofs.Carried.{a_worker_each, fit, fulls_are, only_workers, outs_are, text_are, told}
 use Rattle.snap_run.proofs.Pairs.{Differ, differ_left, new_differ}
 use Rattle.snap_run.proofs.Settled.{leaves, settled}
-use Rattle.snap_run.proofs.Told.{told_fits, told_many, told_ran}
+use Rattle.snap_run.proofs.Told.{told_fits, told_ran}
 
 pub replies_differ : (plan : Plan) → IsRunnable plan → Differ (unwrap_or plan.replies [])
 replies_differ plan runs = differ_left (unwrap_or plan.replies []) (exports_named (all_commands plan.scripts) ++ option_to_list plan.last) (new_differ (files_written plan) runs.written)

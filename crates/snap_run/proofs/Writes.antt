@@ -1,23 +1,19 @@
 -- The files of a run, from what the workers handed over.
-use Rattle.std.specs.Prelude.{AllPairs, IfErr, MatchResult, cond, OnErr, OnOk, Vec, bytes_eq, flat_map, is_some, map, unwrap_or}
 use Rattle.std.specs.Global.{Global}
-use Rattle.std.specs.List.{list_any}
-use Rattle.std.specs.Option.{option_or, option_to_list}
-use Rattle.std.proofs.Common.{zero, suc, ◌≡◌, ◌≢◌, ◌⊎◌, ◌<◌, ◌≤◌, ◌+◌, ℕ, Bool, true, false, List, [], ◌∷◌, ◌++◌, Option, Some, None, Result, Ok, Err, length, get_or, take, drop, inl, inr, refl, sym, ◌∙◌, ap, ap₂, subst, append-nil, append_assoc, arith}
-use Rattle.std.proofs.lemmas.List.{drop_more, take_more, take-append-drop}
-use Rattle.std.proofs.lemmas.List.Concat.{flat_map-append, flat_map-cons}
+use Rattle.snap_prelude.proofs.Common.{drop_more, flat_map-cons, option_or}
+use Rattle.snap_prelude.proofs.Common.{option_to_list, take_more}
+use Rattle.std.proofs.Common.{zero, suc, ◌≡◌, ◌≢◌, ◌⊎◌, ◌<◌, ◌≤◌, ◌+◌, ℕ, Bool, true, false, List, [], ◌∷◌, ◌++◌, Option, Some, None, length, get_or, take, drop, refl, sym, ◌∙◌, ap, ap₂, subst, append-nil, append_assoc, arith, cond, Vec, bytes_eq, is_some}
+use Rattle.std.proofs.lemmas.List.{take-append-drop}
+use Rattle.std.proofs.lemmas.List.Concat.{flat_map-append}
 use Rattle.snap_fits.specs.Fits.{Front}
-use Rattle.snap_io.specs.Causes.{Rose}
-use Rattle.snap_io.specs.Shelves.{Changes, Files, IfTold}
-use Rattle.snap_model.specs.History.{after}
-use Rattle.snap_text.specs.Tables.{table_text}
-use Rattle.snap_crew.specs.Endings.{IsTextIf}
+use Rattle.snap_io.specs.Prelude.{Changes, Files, IfTold}
+use Rattle.snap_crew.specs.Prelude.{IsTextIf}
 use Rattle.snap_crew.specs.declared.answers.Answers.{Answers}
-use Rattle.snap_write.specs.Outputs.{HasBegun, HasWritten, IsUnwritten, Outputs, blank, names_of, text_for}
-use Rattle.snap_write.specs.declared.unwritten.Unwritten.{Unwritten}
+use Rattle.snap_write.specs.Outputs.{HasBegun, HasWritten, Outputs, blank, names_of, text_for}
 use Rattle.snap_write.proofs.Causes.{here}
-use Rattle.snap_write.proofs.Written.{after_written, begun_after, begun_blank, begun_more, begun_over, blank_at, blank_within, changes_after, changes_as, new_here, stays, told_after, written_over}
-use Rattle.snap_run.specs.Files.{AreBlank, answers_in, exports_in, last_file, last_in, replies_in}
+use Rattle.snap_write.proofs.Written.{after_written, begun_after, begun_more, changes_after}
+use Rattle.snap_write.proofs.Written.{changes_as, new_here, stays, told_after}
+use Rattle.snap_run.specs.Files.{AreBlank, exports_in, last_file, last_in, replies_in}
 use Rattle.snap_run.proofs.Pairs.{Differ, differ_apart, differ_left, differ_right}
 use Rattle.snap_run.proofs.Told.{names_append}
 

@@ -1,15 +1,13 @@
 -- The files that a run writes, by what its commands were told.
-use Rattle.std.specs.Prelude.{◌≡◌, ◌⊎◌, ◌<◌, ◌++◌, ℕ, IsTrue, List, [], ◌∷◌, Option, Some, None, Result, Ok, Err, ⊤, Vec, flat_map, length, slice_index_or, unwrap_or}
+use Rattle.std.specs.Prelude.{◌≡◌, ◌⊎◌, ◌<◌, ◌++◌, ℕ, IsTrue, List, [], ◌∷◌, Option, Some, None, Result, Ok, Err, Vec, flat_map, length, slice_index_or}
 use Rattle.std.specs.Option.{option_to_list}
 use Rattle.std.specs.Global.{Global}
 use Rattle.snap_fits.specs.Fits.{Front, Setting, Told}
-use Rattle.snap_io.specs.Shelves.{Changes, Files}
-use Rattle.snap_model.specs.History.{after}
-use Rattle.snap_steps.specs.Ending.{Ended}
+use Rattle.snap_io.specs.Prelude.{Changes, Files}
+use Rattle.snap_prelude.specs.{after, Ended}
 use Rattle.snap_text.specs.Tables.{table_text}
-use Rattle.snap_service.specs.Courses.{fronts_of}
-use Rattle.snap_crew.specs.Answers.{files_of, lines_of}
-use Rattle.snap_crew.specs.Endings.{setting_of}
+use Rattle.snap_service.specs.Prelude.{fronts_of}
+use Rattle.snap_crew.specs.Prelude.{files_of, lines_of, setting_of}
 use Rattle.snap_crew.specs.declared.answers.Answers.{Answers}
 use Rattle.snap_plan.specs.Needs.{all_commands, among, exports_named}
 use Rattle.snap_plan.specs.declared.plan.Plan.{Plan}
@@ -36,21 +34,25 @@ last_file None front = []
 last_file (Some name) front = (name, table_text (after front.history)) ∷ []
 
 -- what made scripts reply and export is not written
-abbrev pub answer_files : Option (List (List ℕ)) → Setting → (ℕ → Front) → List (List Told) → Outputs
+abbrev pub answer_files : Option (List (List ℕ)) → Setting → (ℕ → Front) → List (List Told)
+    → Outputs
 answer_files None s fronts told = []
 answer_files (Some names) s fronts told = reply_files names told ++ export_files s fronts told
 
 -- all files that a run writes, with their texts
 abbrev pub outputs : Plan → List (List Told) → List Ended → Outputs
-outputs plan told fronts = answer_files plan.replies (setting_for plan) (fronts_of fronts) told ++ last_file plan.last (fronts_of fronts 0)
+outputs plan told fronts = answer_files plan.replies (setting_for plan) (fronts_of fronts) told
+    ++ last_file plan.last (fronts_of fronts 0)
 
--- the names of all files that a plan may write: where the replies have files, these and the exports; and the final file
+-- the names of all files that a plan may write: where the replies have files, these and the
+-- exports; and the final file
 abbrev pub answer_names : Option (List (List ℕ)) → List (List ℕ) → List (List ℕ)
 answer_names None exports = []
 answer_names (Some names) exports = names ++ exports
 
 abbrev pub names_written : Plan → List (List ℕ)
-names_written plan = answer_names plan.replies (exports_named (all_commands plan.scripts)) ++ option_to_list plan.last
+names_written plan = answer_names plan.replies (exports_named (all_commands plan.scripts))
+    ++ option_to_list plan.last
 
 -- those that a run may write, by what its words and files give: none where it is stopped
 abbrev pub names_given : Result Plan Stop → List (List ℕ)
@@ -79,13 +81,18 @@ last_in _ _ = []
 
 -- these files are there and empty
 abbrev pub AreBlank : List (List ℕ) → Files → Type 0
-AreBlank names files = (i : ℕ) (d : List ℕ) → i < length names → files (slice_index_or names i d) ≡ Some []
+AreBlank names files =
+    (i : ℕ) (d : List ℕ) → i < length names → files (slice_index_or names i d) ≡ Some []
 
--- what became of files that are written where the reply files were made; where these weren't, nothing
-abbrev pub IsWrittenOr : Outputs → Option Files → Option Files → Type 0 → Result (Unit {0}) Unwritten → Type 0
+-- what became of files that are written where the reply files were made; where these weren't,
+-- nothing
+abbrev pub IsWrittenOr : Outputs → Option Files → Option Files → Type 0
+    → Result (Unit {0}) Unwritten → Type 0
 IsWrittenOr files old new fault (Ok u) = Changes old new (HasWritten files)
-IsWrittenOr files old new fault (Err why) = Changes old new (HasBegun files) × IsUnwritten (names_of files) fault why
+IsWrittenOr files old new fault (Err why) =
+    Changes old new (HasBegun files) × IsUnwritten (names_of files) fault why
 
-abbrev pub IsAfter : Result (Unit {0}) Unwritten → Result (Unit {0}) Unwritten → Outputs → Option Files → Option Files → Type 0 → Type 0
+abbrev pub IsAfter : Result (Unit {0}) Unwritten → Result (Unit {0}) Unwritten → Outputs
+    → Option Files → Option Files → Type 0 → Type 0
 IsAfter (Ok u) result files old new fault = IsWrittenOr files old new fault result
 IsAfter (Err why) result files old new fault = (new ≡ old) × (result ≡ Err why)

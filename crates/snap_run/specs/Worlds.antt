@@ -1,7 +1,7 @@
--- What is outside of a run: the files, what was printed, and how often a read, a write and a print have failed.
+-- What is outside of a run: the files, what was printed, and how often a read, a write and a print
+-- have failed.
 use Rattle.std.specs.Prelude.{◌≡◌, ◌++◌, ◌⊎◌, ℕ, List, Option, Some, None, ⊤, take}
-use Rattle.snap_io.specs.Causes.{Rose}
-use Rattle.snap_io.specs.Shelves.{Files}
+use Rattle.snap_io.specs.Prelude.{Files}
 
 pub record World : Type 0 where
   pub files : Option Files
@@ -11,7 +11,8 @@ pub record World : Type 0 where
   pub printing : ℕ
 
 abbrev pub world : Option Files → Option (List ℕ) → ℕ → ℕ → ℕ → World
-world files printed reading writing printing = record { files = files; printed = printed; reading = reading; writing = writing; printing = printing }
+world files printed reading writing printing = record
+    { files = files; printed = printed; reading = reading; writing = writing; printing = printing }
 
 -- told bytes have grown by a text
 abbrev pub Adds : Option (List ℕ) → Option (List ℕ) → List ℕ → Type 0

@@ -1,7 +1,6 @@
 //! A plan is carried out: reply files are made, the scripts run, and what they came to is written and told.
 ghost use Rattle.std.specs.Prelude.{◌≡◌, ◌≢◌, ◌≤◌, None, [], IfOk, IfSome, OnErr, length};
-ghost use Rattle.snap_io.specs.Causes.{Rose};
-ghost use Rattle.snap_io.specs.Shelves.{Changes};
+ghost use Rattle.snap_io.specs.Prelude.{Changes, Rose};
 ghost use Rattle.snap_plan.specs.Runnable.{IsRunnable};
 ghost use Rattle.snap_run.specs.Files.{KeepsOthers, names_written};
 ghost use Rattle.snap_run.specs.Outcomes.{HasEnded, IsCarried};
@@ -30,15 +29,23 @@ pub fn carry_out<R: Threads + Wait + Sync, S: Shelf, K: Sink, T: Turn + Sync>(
     turn: &T,
 ) -> Outcome
     requires runnable { IsRunnable plan.now }
-    requires a_worker_each { IfSome plan.now.replies (λ names. length names ≡ length plan.now.scripts) }
+    requires a_worker_each { IfSome plan.now.replies
+        (λ names. length names ≡ length plan.now.scripts) }
     ensures statuses { HasEnded result.status }
-    ensures carried { result.status ≢ 6 → IsCarried plan.now (world (S.files shelf.old) (K.written sink.old) (S.read_faults shelf.old) (S.write_faults shelf.old) (K.faults sink.old))
-        (world (S.files shelf.new) (K.written sink.new) (S.read_faults shelf.new) (S.write_faults shelf.new) (K.faults sink.new)) result }
+    ensures carried { result.status ≢ 6
+        → IsCarried plan.now
+        (world (S.files shelf.old) (K.written sink.old) (S.read_faults shelf.old)
+        (S.write_faults shelf.old) (K.faults sink.old))
+        (world (S.files shelf.new) (K.written sink.new)
+        (S.read_faults shelf.new) (S.write_faults shelf.new) (K.faults sink.new)) result }
     ensures no_fronts { result.status ≡ 6 → result.fronts ≡ [] }
-    ensures memory { result.status ≡ 6 → Tells (K.written sink.old) (K.written sink.new) (Rose (K.faults sink.old) (K.faults sink.new)) memory_text }
+    ensures memory { result.status ≡ 6
+        → Tells (K.written sink.old) (K.written sink.new)
+        (Rose (K.faults sink.old) (K.faults sink.new)) memory_text }
 
     // Whatever the status, no file but those of the plan has changed, and the count of failed reads stays.
-    ensures kept { Changes (S.files shelf.old) (S.files shelf.new) (KeepsOthers (names_written plan.now)) }
+    ensures kept { Changes (S.files shelf.old) (S.files shelf.new)
+        (KeepsOthers (names_written plan.now)) }
     ensures reads { S.read_faults shelf.new ≡ S.read_faults shelf.old }
     ensures blind { plan.now.replies ≡ None → plan.now.last ≡ None → shelf.new ≡ shelf.old }
 {
@@ -64,12 +71,18 @@ fn complete<R: Threads + Wait + Sync, S: Shelf, K: Sink, T: Turn + Sync>(
     turn: &T,
 ) -> Result<Outcome, OutOfMemory>
     requires runnable { IsRunnable plan.now }
-    requires a_worker_each { IfSome plan.now.replies (λ names. length names ≡ length plan.now.scripts) }
-    ensures carried { IfOk result (IsCarried plan.now (world (S.files shelf.old) (K.written sink.old) (S.read_faults shelf.old) (S.write_faults shelf.old) (K.faults sink.old))
-        (world (S.files shelf.new) (K.written sink.new) (S.read_faults shelf.new) (S.write_faults shelf.new) (K.faults sink.new))) }
+    requires a_worker_each { IfSome plan.now.replies
+        (λ names. length names ≡ length plan.now.scripts) }
+    ensures carried { IfOk result
+        (IsCarried plan.now
+        (world (S.files shelf.old) (K.written sink.old) (S.read_faults shelf.old)
+        (S.write_faults shelf.old) (K.faults sink.old))
+        (world (S.files shelf.new) (K.written sink.new)
+        (S.read_faults shelf.new) (S.write_faults shelf.new) (K.faults sink.new))) }
     ensures statuses { IfOk result (λ outcome. HasEnded outcome.status × (outcome.status ≢ 6)) }
     ensures silent { OnErr result (sink.new ≡ sink.old) }
-    ensures kept { Changes (S.files shelf.old) (S.files shelf.new) (KeepsOthers (names_written plan.now)) }
+    ensures kept { Changes (S.files shelf.old) (S.files shelf.new)
+        (KeepsOthers (names_written plan.now)) }
     ensures reads { S.read_faults shelf.new ≡ S.read_faults shelf.old }
     ensures blind { plan.now.replies ≡ None → plan.now.last ≡ None → shelf.new ≡ shelf.old }
 {

@@ -1,7 +1,6 @@
 //! The files of a run: reply files, exports and the final file, in this order, up to the first that fails.
 ghost use Rattle.std.specs.Prelude.{◌≡◌, ◌≢◌, ◌≤◌, ◌++◌, [], None, Some, Ok, Err, AllPairs, IfErr, IsOk, IsSome, OnErr, OnOk, length, unwrap_or};
-ghost use Rattle.snap_io.specs.Causes.{Rose};
-ghost use Rattle.snap_io.specs.Shelves.{Changes, IfTold};
+ghost use Rattle.snap_io.specs.Prelude.{Changes, IfTold, Rose};
 ghost use Rattle.snap_run.specs.Files.{AreBlank, IsAfter, IsWrittenOr, answers_in, exports_in, last_in, replies_in};
 ghost use Rattle.snap_write.specs.Outputs.{HasBegun, HasWritten, IsUnwritten, blank, names_of};
 
@@ -20,9 +19,15 @@ pub fn create_replies<S: Shelf>(
     replies: &Option<NameList>,
 ) -> Result<(), Unwritten>
     requires { AllPairs (λ a b. a ≢ b) (unwrap_or replies.now []) }
-    ensures written { OnOk result (Changes (S.files shelf.old) (S.files shelf.new) (HasWritten (blank (unwrap_or replies.now [])))) }
-    ensures begun { OnErr result (Changes (S.files shelf.old) (S.files shelf.new) (HasBegun (blank (unwrap_or replies.now [])))) }
-    ensures stops { IfErr result (IsUnwritten (unwrap_or replies.now []) (Rose (S.write_faults shelf.old) (S.write_faults shelf.new))) }
+    ensures written { OnOk result
+        (Changes (S.files shelf.old) (S.files shelf.new)
+        (HasWritten (blank (unwrap_or replies.now [])))) }
+    ensures begun { OnErr result
+        (Changes (S.files shelf.old) (S.files shelf.new)
+        (HasBegun (blank (unwrap_or replies.now [])))) }
+    ensures stops { IfErr result
+        (IsUnwritten (unwrap_or replies.now [])
+        (Rose (S.write_faults shelf.old) (S.write_faults shelf.new))) }
     ensures later { S.write_faults shelf.old ≤ S.write_faults shelf.new }
     ensures reads { S.read_faults shelf.new ≡ S.read_faults shelf.old }
     ensures none { replies.now ≡ None → (shelf.new ≡ shelf.old) × IsOk result }
@@ -41,10 +46,19 @@ pub fn write_if_made<S: Shelf>(
     finished: &Finished,
     made: Result<(), Unwritten>,
 ) -> Result<(), Unwritten>
-    requires differ { AllPairs (λ a b. a ≢ b) (names_of (answers_in plan.now.replies finished.now.answers.items ++ last_in plan.now.last finished.now.last)) }
-    requires blank { OnOk made (IfTold (S.files shelf.old) (AreBlank (unwrap_or plan.now.replies []))) }
-    requires a_worker_each { length (unwrap_or plan.now.replies []) ≤ length finished.now.answers.items }
-    ensures after { IsAfter made result (answers_in plan.now.replies finished.now.answers.items ++ last_in plan.now.last finished.now.last) (S.files shelf.old) (S.files shelf.new) (Rose (S.write_faults shelf.old) (S.write_faults shelf.new)) }
+    requires differ { AllPairs (λ a b. a ≢ b)
+        (names_of
+        (answers_in plan.now.replies finished.now.answers.items
+        ++ last_in plan.now.last finished.now.last)) }
+    requires blank { OnOk made
+        (IfTold (S.files shelf.old) (AreBlank (unwrap_or plan.now.replies []))) }
+    requires a_worker_each { length (unwrap_or plan.now.replies [])
+        ≤ length finished.now.answers.items }
+    ensures after { IsAfter made result
+        (answers_in plan.now.replies finished.now.answers.items
+        ++ last_in plan.now.last finished.now.last)
+        (S.files shelf.old) (S.files shelf.new)
+        (Rose (S.write_faults shelf.old) (S.write_faults shelf.new)) }
     ensures later { S.write_faults shelf.old ≤ S.write_faults shelf.new }
     ensures reads { S.read_faults shelf.new ≡ S.read_faults shelf.old }
     ensures none { plan.now.replies ≡ None → plan.now.last ≡ None → shelf.new ≡ shelf.old }
@@ -62,10 +76,18 @@ fn write_files<S: Shelf>(
     plan: &Plan,
     finished: &Finished,
 ) -> Result<(), Unwritten>
-    requires differ { AllPairs (λ a b. a ≢ b) (names_of (answers_in plan.now.replies finished.now.answers.items ++ last_in plan.now.last finished.now.last)) }
+    requires differ { AllPairs (λ a b. a ≢ b)
+        (names_of
+        (answers_in plan.now.replies finished.now.answers.items
+        ++ last_in plan.now.last finished.now.last)) }
     requires blank { IfTold (S.files shelf.old) (AreBlank (unwrap_or plan.now.replies [])) }
-    requires a_worker_each { length (unwrap_or plan.now.replies []) ≤ length finished.now.answers.items }
-    ensures written { IsWrittenOr (answers_in plan.now.replies finished.now.answers.items ++ last_in plan.now.last finished.now.last) (S.files shelf.old) (S.files shelf.new) (Rose (S.write_faults shelf.old) (S.write_faults shelf.new)) result }
+    requires a_worker_each { length (unwrap_or plan.now.replies [])
+        ≤ length finished.now.answers.items }
+    ensures written { IsWrittenOr
+        (answers_in plan.now.replies finished.now.answers.items
+        ++ last_in plan.now.last finished.now.last)
+        (S.files shelf.old) (S.files shelf.new)
+        (Rose (S.write_faults shelf.old) (S.write_faults shelf.new)) result }
     ensures later { S.write_faults shelf.old ≤ S.write_faults shelf.new }
     ensures reads { S.read_faults shelf.new ≡ S.read_faults shelf.old }
     ensures none { plan.now.replies ≡ None → plan.now.last ≡ None → shelf.new ≡ shelf.old }
@@ -85,9 +107,15 @@ fn write_if_named<S: Shelf>(
     requires differ { AllPairs (λ a b. a ≢ b) (names_of (answers_in replies.now answers.now)) }
     requires blank { IfTold (S.files shelf.old) (AreBlank (unwrap_or replies.now [])) }
     requires a_worker_each { length (unwrap_or replies.now []) ≤ length answers.now }
-    ensures written { OnOk result (Changes (S.files shelf.old) (S.files shelf.new) (HasWritten (answers_in replies.now answers.now))) }
-    ensures begun { OnErr result (Changes (S.files shelf.old) (S.files shelf.new) (HasBegun (answers_in replies.now answers.now))) }
-    ensures stops { IfErr result (IsUnwritten (names_of (answers_in replies.now answers.now)) (Rose (S.write_faults shelf.old) (S.write_faults shelf.new))) }
+    ensures written { OnOk result
+        (Changes (S.files shelf.old) (S.files shelf.new)
+        (HasWritten (answers_in replies.now answers.now))) }
+    ensures begun { OnErr result
+        (Changes (S.files shelf.old) (S.files shelf.new)
+        (HasBegun (answers_in replies.now answers.now))) }
+    ensures stops { IfErr result
+        (IsUnwritten (names_of (answers_in replies.now answers.now))
+        (Rose (S.write_faults shelf.old) (S.write_faults shelf.new))) }
     ensures later { S.write_faults shelf.old ≤ S.write_faults shelf.new }
     ensures reads { S.read_faults shelf.new ≡ S.read_faults shelf.old }
     ensures none { replies.now ≡ None → (shelf.new ≡ shelf.old) × IsOk result }
@@ -105,12 +133,19 @@ fn write_answers<S: Shelf>(
     names: &[Name],
     answers: &[Answers],
 ) -> Result<(), Unwritten>
-    requires differ { AllPairs (λ a b. a ≢ b) (names_of (replies_in names.now answers.now ++ exports_in answers.now)) }
+    requires differ { AllPairs (λ a b. a ≢ b)
+        (names_of (replies_in names.now answers.now ++ exports_in answers.now)) }
     requires blank { IfTold (S.files shelf.old) (AreBlank names.now) }
     requires a_worker_each { length names.now ≤ length answers.now }
-    ensures written { OnOk result (Changes (S.files shelf.old) (S.files shelf.new) (HasWritten (replies_in names.now answers.now ++ exports_in answers.now))) }
-    ensures begun { OnErr result (Changes (S.files shelf.old) (S.files shelf.new) (HasBegun (replies_in names.now answers.now ++ exports_in answers.now))) }
-    ensures stops { IfErr result (IsUnwritten (names_of (replies_in names.now answers.now ++ exports_in answers.now)) (Rose (S.write_faults shelf.old) (S.write_faults shelf.new))) }
+    ensures written { OnOk result
+        (Changes (S.files shelf.old) (S.files shelf.new)
+        (HasWritten (replies_in names.now answers.now ++ exports_in answers.now))) }
+    ensures begun { OnErr result
+        (Changes (S.files shelf.old) (S.files shelf.new)
+        (HasBegun (replies_in names.now answers.now ++ exports_in answers.now))) }
+    ensures stops { IfErr result
+        (IsUnwritten (names_of (replies_in names.now answers.now ++ exports_in answers.now))
+        (Rose (S.write_faults shelf.old) (S.write_faults shelf.new))) }
     ensures later { S.write_faults shelf.old ≤ S.write_faults shelf.new }
     ensures reads { S.read_faults shelf.new ≡ S.read_faults shelf.old }
 {
@@ -129,9 +164,15 @@ fn append_replies<S: Shelf>(
     requires differ { AllPairs (λ a b. a ≢ b) names.now }
     requires blank { IfTold (S.files shelf.old) (AreBlank names.now) }
     requires a_worker_each { length names.now ≤ length answers.now }
-    ensures written { OnOk result (Changes (S.files shelf.old) (S.files shelf.new) (HasWritten (replies_in names.now answers.now))) }
-    ensures begun { OnErr result (Changes (S.files shelf.old) (S.files shelf.new) (HasBegun (replies_in names.now answers.now))) }
-    ensures stops { IfErr result (IsUnwritten (names_of (replies_in names.now answers.now)) (Rose (S.write_faults shelf.old) (S.write_faults shelf.new))) }
+    ensures written { OnOk result
+        (Changes (S.files shelf.old) (S.files shelf.new)
+        (HasWritten (replies_in names.now answers.now))) }
+    ensures begun { OnErr result
+        (Changes (S.files shelf.old) (S.files shelf.new)
+        (HasBegun (replies_in names.now answers.now))) }
+    ensures stops { IfErr result
+        (IsUnwritten (names_of (replies_in names.now answers.now))
+        (Rose (S.write_faults shelf.old) (S.write_faults shelf.new))) }
     ensures later { S.write_faults shelf.old ≤ S.write_faults shelf.new }
     ensures reads { S.read_faults shelf.new ≡ S.read_faults shelf.old }
 {
@@ -148,9 +189,13 @@ fn write_exports<S: Shelf>(
     answers: &[Answers],
 ) -> Result<(), Unwritten>
     requires { AllPairs (λ a b. a ≢ b) (names_of (exports_in answers.now)) }
-    ensures written { OnOk result (Changes (S.files shelf.old) (S.files shelf.new) (HasWritten (exports_in answers.now))) }
-    ensures begun { OnErr result (Changes (S.files shelf.old) (S.files shelf.new) (HasBegun (exports_in answers.now))) }
-    ensures stops { IfErr result (IsUnwritten (names_of (exports_in answers.now)) (Rose (S.write_faults shelf.old) (S.write_faults shelf.new))) }
+    ensures written { OnOk result
+        (Changes (S.files shelf.old) (S.files shelf.new) (HasWritten (exports_in answers.now))) }
+    ensures begun { OnErr result
+        (Changes (S.files shelf.old) (S.files shelf.new) (HasBegun (exports_in answers.now))) }
+    ensures stops { IfErr result
+        (IsUnwritten (names_of (exports_in answers.now))
+        (Rose (S.write_faults shelf.old) (S.write_faults shelf.new))) }
     ensures later { S.write_faults shelf.old ≤ S.write_faults shelf.new }
     ensures reads { S.read_faults shelf.new ≡ S.read_faults shelf.old }
 {
@@ -167,9 +212,13 @@ fn write_last<S: Shelf>(
     last: &Option<Name>,
     text: &Option<Vec<u8>>,
 ) -> Result<(), Unwritten>
-    ensures written { OnOk result (Changes (S.files shelf.old) (S.files shelf.new) (HasWritten (last_in last.now text.now))) }
-    ensures begun { OnErr result (Changes (S.files shelf.old) (S.files shelf.new) (HasBegun (last_in last.now text.now))) }
-    ensures stops { IfErr result (IsUnwritten (names_of (last_in last.now text.now)) (Rose (S.write_faults shelf.old) (S.write_faults shelf.new))) }
+    ensures written { OnOk result
+        (Changes (S.files shelf.old) (S.files shelf.new) (HasWritten (last_in last.now text.now))) }
+    ensures begun { OnErr result
+        (Changes (S.files shelf.old) (S.files shelf.new) (HasBegun (last_in last.now text.now))) }
+    ensures stops { IfErr result
+        (IsUnwritten (names_of (last_in last.now text.now))
+        (Rose (S.write_faults shelf.old) (S.write_faults shelf.new))) }
     ensures later { S.write_faults shelf.old ≤ S.write_faults shelf.new }
     ensures reads { S.read_faults shelf.new ≡ S.read_faults shelf.old }
     ensures none { last.now ≡ None → shelf.new ≡ shelf.old }

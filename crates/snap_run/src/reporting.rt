@@ -1,6 +1,6 @@
 //! What a run that was carried out tells: its summary, or the file that could not be written.
 ghost use Rattle.std.specs.Prelude.{◌≡◌, ◌≢◌, ◌≤◌, ◌⊎◌, ◌<◌, ◌++◌, ◌^◌, IfOk, OnErr, length};
-ghost use Rattle.snap_io.specs.Causes.{Rose};
+ghost use Rattle.snap_io.specs.Prelude.{Rose};
 ghost use Rattle.snap_run.specs.Printed.{fault_text, first_line, table_lines};
 ghost use Rattle.snap_run.specs.Reports.{IsReported, IsSummed, fulls_in, lines_in, summary_in};
 ghost use Rattle.snap_run.specs.Worlds.{Tells};
@@ -28,8 +28,11 @@ pub fn report<K: Sink>(
     requires few_commands { lines_in plan.now.scripts < 2 ^ 63 }
     requires few_full { fulls_in finished.answers.items < 2 ^ 63 }
     ensures fronts { IfOk result (λ outcome. outcome.fronts ≡ finished.fronts) }
-    ensures told { IfOk result (λ outcome. IsReported (K.written sink.old) (K.written sink.new) (Rose (K.faults sink.old) (K.faults sink.new))
-        (summary_in plan.now.scripts finished.answers.items plan.now.tables finished.fronts) (fulls_in finished.answers.items) written outcome.status) }
+    ensures told { IfOk result
+        (λ outcome. IsReported (K.written sink.old) (K.written sink.new)
+        (Rose (K.faults sink.old) (K.faults sink.new))
+        (summary_in plan.now.scripts finished.answers.items plan.now.tables finished.fronts)
+        (fulls_in finished.answers.items) written outcome.status) }
     ensures silent { OnErr result (sink.new ≡ sink.old) }
 {
     let Finished {
@@ -57,8 +60,12 @@ fn sum_up<K: Sink>(
 ) -> Result<Outcome, OutOfMemory>
     requires { length fronts ≡ length tables.now }
     ensures fronts { IfOk result (λ outcome. outcome.fronts ≡ fronts) }
-    ensures told { IfOk result (λ outcome. IsSummed (K.written sink.old) (K.written sink.new) (Rose (K.faults sink.old) (K.faults sink.new))
-        (first_line counts.now.scripts counts.now.commands counts.now.full ++ table_lines tables.now fronts) counts.now.full outcome.status) }
+    ensures told { IfOk result
+        (λ outcome. IsSummed (K.written sink.old) (K.written sink.new)
+        (Rose (K.faults sink.old) (K.faults sink.new))
+        (first_line counts.now.scripts counts.now.commands counts.now.full
+        ++ table_lines tables.now fronts)
+        counts.now.full outcome.status) }
     ensures silent { OnErr result (sink.new ≡ sink.old) }
 {
     let text = summary_text(alloc, counts, tables, &fronts)?;
@@ -87,7 +94,9 @@ fn tell_fault<K: Sink>(
 ) -> Result<Outcome, OutOfMemory>
     ensures fronts { IfOk result (λ outcome. outcome.fronts ≡ fronts) }
     ensures status { IfOk result (λ outcome. outcome.status ≡ 5) }
-    ensures told { IfOk result (λ outcome. Tells (K.written sink.old) (K.written sink.new) (Rose (K.faults sink.old) (K.faults sink.new)) (fault_text file.now)) }
+    ensures told { IfOk result
+        (λ outcome. Tells (K.written sink.old) (K.written sink.new)
+        (Rose (K.faults sink.old) (K.faults sink.new)) (fault_text file.now)) }
     ensures silent { OnErr result (sink.new ≡ sink.old) }
 {
     let text = fault_text(alloc, file)?;

@@ -23,7 +23,10 @@ pub fn summary_text(
     fronts: &Fronts,
 ) -> Result<String, OutOfMemory>
     requires { length fronts.now ≡ length tables.now }
-    ensures { IfOk result (λ text. string_bytes text ≡ first_line counts.now.scripts counts.now.commands counts.now.full ++ table_lines tables.now fronts.now) }
+    ensures { IfOk result
+        (λ text. string_bytes text
+        ≡ first_line counts.now.scripts counts.now.commands counts.now.full
+        ++ table_lines tables.now fronts.now) }
 {
     let mut text = first_line(alloc, counts)?;
     let fronts = fronts.list();
@@ -36,7 +39,9 @@ pub fn summary_text(
 }
 
 fn first_line(alloc: Global, counts: &Counts) -> Result<String, OutOfMemory>
-    ensures { IfOk result (λ line. string_bytes line ≡ first_line counts.now.scripts counts.now.commands counts.now.full) }
+    ensures { IfOk result
+        (λ line. string_bytes line
+        ≡ first_line counts.now.scripts counts.now.commands counts.now.full) }
 {
     let Counts {
         scripts,

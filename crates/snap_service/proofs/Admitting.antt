@@ -1,32 +1,18 @@
 -- What the caller's kit keeps when it admits others and makes its clone.
-use Rattle.std.proofs.Common.{◌≡◌, ◌≢◌, ◌<◌, ◌+◌, ℕ, Bool, List, [], ◌∷◌, ◌++◌, length, Option, inl, inr, refl, ap, sym, ◌∙◌, subst, arith}
-use Rattle.std.specs.Prelude.{◌||◌}
-use native.Mathlib.Decide.{ℕ_discrete}
-use mathlib.Core.Logic.{dite}
-use Rattle.std.proofs.lemmas.List.{get_or-set_same, get_or-set_other, length-set}
-use Rattle.std.proofs.lemmas.Option.{slice_get-get_or}
+use Rattle.std.proofs.Common.{◌≡◌, ◌≢◌, ◌<◌, ◌+◌, ℕ, Bool, List, [], ◌∷◌, ◌++◌, length, Option, inl, inr, refl, ap, sym, ◌∙◌, subst, arith, ◌||◌}
+use Rattle.snap_prelude.proofs.Common.{dite, get_or-set_other, get_or-set_same}
+use Rattle.snap_prelude.proofs.Common.{length-set, slice_get-get_or, ℕ_discrete}
 use Rattle.snap_fits.specs.Sessions.{Served, AgreesAt}
 use Rattle.snap_fits.specs.Fits.{matching_after, start}
 use Rattle.snap_fits.proofs.Prefixes.{begins_trans}
 use Rattle.snap_fits.proofs.Runs.{served_ends}
-use Rattle.snap_model.specs.History.{Begins}
-use Rattle.snap_model.specs.SortedMap.{Pairs}
-use Rattle.snap_model.specs.declared.call.Entry.{Entry}
-use Rattle.snap_model.specs.declared.command.Command.{Command}
-use Rattle.snap_model.specs.declared.command.Reply.{Reply}
-use Rattle.snap_rule.specs.State.{In}
-use Rattle.snap_steps.specs.Clones.{Cloned}
-use Rattle.snap_steps.specs.Counting.{total}
-use Rattle.snap_steps.specs.Ending.{Ended, SpeaksForAll}
-use Rattle.snap_steps.specs.Numbers.{admitted_of}
-use Rattle.snap_steps.specs.Seen.{Known}
-use Rattle.snap_steps.specs.declared.view.Admitted.{Admitted}
-use Rattle.snap_steps.specs.declared.view.View.{View}
-use Rattle.snap_service.specs.Courses.{course, fronts_of, setting, track}
-use Rattle.snap_service.specs.Kits.{Admits, AdmitsAll, AreClosed, FitsAll, HasFinal, IsCallers, IsFinal, IsUncut, Joins, JoinsAll, SpeaksFor}
+use Rattle.snap_prelude.specs.{Admitted, admitted_of, Begins, Cloned, Command, Ended}
+use Rattle.snap_prelude.specs.{Entry, In, Known, Pairs, Reply, SpeaksForAll, total, View}
+use Rattle.snap_service.specs.Prelude.{Admits, AdmitsAll, AreClosed, AreSeated, AreTables, course}
+use Rattle.snap_service.specs.Prelude.{FitsAll, fronts_of, HasFinal, HasServed, IsCallers}
+use Rattle.snap_service.specs.Prelude.{IsFinal, IsUncut, Joins, JoinsAll, nobody, pass_at}
+use Rattle.snap_service.specs.Prelude.{setting, SpeaksFor, State, table_at, Tables, track}
 use Rattle.snap_text.specs.LoadFiles.{Loads}
-use Rattle.snap_service.specs.Runs.{HasServed}
-use Rattle.snap_service.specs.States.{AreSeated, AreTables, State, Tables, nobody, pass_at, table_at}
 use Rattle.snap_service.proofs.Covered.{covers_all}
 use Rattle.snap_service.proofs.Notes.{handed_grows}
 use Rattle.snap_service.proofs.Tracks.{or_true}
@@ -45,18 +31,18 @@ joins_new : (old receipt new : Known) → Joins old receipt new → SpeaksFor ne
 joins_new old receipt new h = let is = h.3 in record {
   listed = subst (λ (l : List Admitted). In (admitted_of receipt.view) l) (sym (ap (λ (k : Known). k.view.admitted) is)) (in_middle (admitted_of receipt.view) old.view.admitted receipt.view.admitted);
   seen = subst (λ (l : List Entry). Begins receipt.view.seen l) (sym (ap (λ (k : Known). k.view.seen) is)) h.2;
-  handed = omega (arith, ap (λ (k : Known). k.view.handed) is);
-  epochs = omega (arith, ap (λ (k : Known). k.view.epochs) is);
-  worn = λ e. ap (λ (k : Known). k.view.worn) is ∙ ap (λ (b : Bool). old.view.worn || b) e ∙ or_true old.view.worn;
+  handed = omega (arith, ap (λ (k : Known). k.view.noted.handed) is);
+  epochs = omega (arith, ap (λ (k : Known). k.view.noted.epochs) is);
+  worn = λ e. ap (λ (k : Known). k.view.noted.worn) is ∙ ap (λ (b : Bool). old.view.noted.worn || b) e ∙ or_true old.view.noted.worn;
 }
 
 joins_keeps : (old receipt new other : Known) → Joins old receipt new → SpeaksFor old.view other.view → SpeaksFor new.view other.view
 joins_keeps old receipt new other h x = let is = h.3 in record {
   listed = subst (λ (l : List Admitted). In (admitted_of other.view) l) (sym (ap (λ (k : Known). k.view.admitted) is)) (in_front (admitted_of other.view) old.view.admitted (admitted_of receipt.view ∷ receipt.view.admitted) x.listed);
   seen = subst (λ (l : List Entry). Begins other.view.seen l) (sym (ap (λ (k : Known). k.view.seen) is)) (begins_trans other.view.seen old.view.seen h.0 x.seen h.1.goes_on);
-  handed = omega (arith, ap (λ (k : Known). k.view.handed) is, x.handed);
-  epochs = omega (arith, ap (λ (k : Known). k.view.epochs) is, x.epochs);
-  worn = λ e. ap (λ (k : Known). k.view.worn) is ∙ ap (λ (b : Bool). b || receipt.view.worn) (x.worn e);
+  handed = omega (arith, ap (λ (k : Known). k.view.noted.handed) is, x.handed);
+  epochs = omega (arith, ap (λ (k : Known). k.view.noted.epochs) is, x.epochs);
+  worn = λ e. ap (λ (k : Known). k.view.noted.worn) is ∙ ap (λ (b : Bool). b || receipt.view.noted.worn) (x.worn e);
 }
 
 pub admits_new : (old receipt new : List Known) → JoinsAll old receipt new → Admits new receipt
@@ -98,9 +84,9 @@ module _ (old : List Known) (clone : Cloned) (new : List Known) (h : IsFinal old
   speaks w x = let c = h.2 in let is = c.cut.is in record {
     listed = subst (λ (l : List Admitted). In (admitted_of w) l) (sym (ap (λ (k : Known). k.view.admitted) is)) x.listed;
     seen = subst (λ (l : List Entry). Begins w.seen l) (sym c.cut.seen) (begins_trans w.seen (pass_at old 0).view.seen clone.base x.seen c.cut.extends.goes_on);
-    handed = omega (arith, x.handed, c.cut.noted.handed, handed_grows (pass_at old 0).view.handed c.cut.more);
-    epochs = omega (arith, ap (λ (k : Known). k.view.epochs) is, x.epochs);
-    worn = λ e. ap (λ (k : Known). k.view.worn) is ∙ x.worn e;
+    handed = omega (arith, x.handed, c.cut.noted.handed, handed_grows (pass_at old 0).view.noted.handed c.cut.more);
+    epochs = omega (arith, ap (λ (k : Known). k.view.noted.epochs) is, x.epochs);
+    worn = λ e. ap (λ (k : Known). k.view.noted.worn) is ∙ x.worn e;
   }
 
   pub final_keeps : (other : List Known) → Admits old other → Admits new other
@@ -119,7 +105,7 @@ module _ (old : List Known) (clone : Cloned) (new : List Known) (h : IsFinal old
     where
       made : HasFinal h.0.view
       made = let c = h.2 in let is = c.cut.is in record {
-        theirs = let all = c.cut.knows (a 0 some) in omega (arith, all, ap (λ (k : Known). k.view.epochs) is, ap length (u.none 0 some), ap (λ (k : Known). total (λ (x : Admitted). length x.cuts) k.view.admitted) is);
+        theirs = let all = c.cut.knows (a 0 some) in omega (arith, all, ap (λ (k : Known). k.view.noted.epochs) is, ap length (u.none 0 some), ap (λ (k : Known). total (λ (x : Admitted). length x.cuts) k.view.admitted) is);
         one = c.cut.cuts ∙ ap (λ (l : List ℕ). l ++ length clone.base ∷ []) (u.none 0 some) ∙ ap (λ (l : List Entry). length l ∷ []) (sym c.cut.seen);
       }
 

@@ -1,32 +1,22 @@
 -- From what a session's command does, by the promises of the tables' calls, to what counts of it.
-use Rattle.std.proofs.Common.{zero, suc, ◌≡◌, ◌≢◌, ◌<◌, ◌≤◌, ◌-◌, ◌^◌, ℕ, true, false, true≢false, List, [], ◌∷◌, ◌++◌, length, Option, Some, None, get_or, inl, inr, refl, ap, sym, ◌∙◌, subst, arith}
-use Rattle.std.specs.Prelude.{slice_get, slice_set, slice_index_or, unwrap_or, IsSome, take, min, ◌⊎◌}
-use Rattle.std.proofs.lemmas.List.{get_or-set_same, get_or-set_other}
-use Rattle.std.proofs.lemmas.Option.{slice_get-get_or}
+use Rattle.std.proofs.Common.{zero, suc, ◌≡◌, ◌≢◌, ◌<◌, ◌≤◌, ◌-◌, ◌^◌, ℕ, true, false, true≢false, List, [], ◌∷◌, ◌++◌, length, Option, Some, None, get_or, inl, inr, refl, ap, sym, ◌∙◌, subst, arith, slice_get, slice_set, slice_index_or, unwrap_or, IsSome, take, min, ◌⊎◌}
+use Rattle.snap_prelude.proofs.Common.{get_or-set_other, get_or-set_same, slice_get-get_or}
 use Rattle.snap_fits.specs.Fits.{Setting, TellsDepth, put_reply, remove_reply, value_reply, pair_reply}
 use Rattle.snap_fits.specs.Sessions.{Track, Served, exported}
 use Rattle.snap_fits.specs.Steps as steps
 use Rattle.snap_fits.proofs.Runs.{served_goes_on}
-use Rattle.snap_model.specs.History.{after}
-use Rattle.snap_model.specs.SortedMap.{Pairs, at, first_pair, last_pair, floor, lower, ceiling, higher, count}
-use Rattle.snap_model.specs.declared.call.Call.{Call}
-use Rattle.snap_model.specs.declared.call.Call.TheVariants.{Put, Remove}
-use Rattle.snap_model.specs.declared.command.Command.{Command}
-use Rattle.snap_model.specs.declared.command.Command.TheVariants as command
-use Rattle.snap_model.specs.declared.command.Reply.{Reply}
-use Rattle.snap_model.specs.declared.command.Reply.TheVariants as reply
-use Rattle.snap_rule.specs.Settled.{IsSettledTree}
-use Rattle.snap_steps.specs.Clones.{Cloned, image}
-use Rattle.snap_steps.specs.Copies.{TakesBack}
-use Rattle.snap_steps.specs.Seen.{Known}
+use Rattle.snap_prelude.specs.{after, at, Call, ceiling, Cloned, Command, count}
+use Rattle.snap_prelude.specs.{first_pair, floor, higher, image, IsSettledTree, Known}
+use Rattle.snap_prelude.specs.{last_pair, lower, Pairs, Put, Remove, Reply, TakesBack}
 use Rattle.snap_view.specs.Balances.{TellsBalance}
 use Rattle.snap_view.specs.declared.balance.Settled.{Settled}
 use Rattle.snap_view.specs.declared.balance.Settled.TheVariants.{Yes, RowsOut, StampOut}
-use Rattle.snap_service.specs.Courses.{course, kept, kept_of, setting, track, track_of}
+use Rattle.snap_service.specs.Prelude.{CanRun, clone_at, course, FitsSlot, is_yes}
+use Rattle.snap_service.specs.Prelude.{IsWellFormed, kept, kept_of, Loaded, map_in}
+use Rattle.snap_service.specs.Prelude.{Measured, Measures, nobody, pass_at, pass_in_use}
+use Rattle.snap_service.specs.Prelude.{place_of, Serves, ServesOn, setting, State, track}
+use Rattle.snap_service.specs.Prelude.{track_of, with_pass, with_pass_at, with_slot, Wrote}
 use Rattle.snap_text.specs.LoadFiles.{Loads, pairs_of}
-use Rattle.snap_service.specs.Runs.{ServesOn}
-use Rattle.snap_service.specs.Serving.{CanRun, Loaded, Measured, Measures, Serves, Wrote, is_yes, map_in}
-use Rattle.snap_service.specs.States.{State, FitsSlot, IsWellFormed, clone_at, nobody, pass_at, pass_in_use, place_of, with_pass, with_pass_at, with_slot}
 use Rattle.snap_service.proofs.Tracks.{cut, learnt, put_all, read, refused, worn_learnt, wrote}
 
 get_set_other : {X : Type 0} (xs : List X) (i j : ℕ) (x : X) → j ≢ i → slice_get (slice_set xs i x) j ≡ slice_get xs j
@@ -63,7 +53,7 @@ is_settled old new Yes t e = t.0
 is_settled old new (RowsOut rows) t e = absurd (true≢false (sym e))
 is_settled old new (StampOut row) t e = absurd (true≢false (sym e))
 
-why_not : (rows : ℕ) (old new : Cloned) (p k : Known) (balance : Settled) → old.rows ≡ rows → TellsBalance old new balance → TakesBack p k new → is_yes balance ≡ false → (rows ≤ old.next) ⊎ (k.view.worn ≡ true)
+why_not : (rows : ℕ) (old new : Cloned) (p k : Known) (balance : Settled) → old.rows ≡ rows → TellsBalance old new balance → TakesBack p k new → is_yes balance ≡ false → (rows ≤ old.next) ⊎ (k.view.noted.worn ≡ true)
 why_not rows old new p k Yes is t back e = absurd (true≢false e)
 why_not rows old new p k (RowsOut n) is t back e = inl (let all = t.1 in omega (arith, all, is))
 why_not rows old new p k (StampOut row) is t back e = inr (worn_learnt p k new back (ap (λ (c : Cloned). c.worn) t.4))
@@ -103,7 +93,7 @@ loaded_step : (rows : ℕ) (pairs : Pairs) (old new : Known) (r : Reply) → Loa
 loaded_step rows pairs old new r (inl h) = inl (h.0, put_all old pairs new h.1)
 loaded_step rows pairs old new r (inr h) = inr (h.0, h.1, h.2, h.3, track_of h.4, put_all old (take h.0 pairs) h.4 h.5, refused rows h.4 new (Put h.1.0 h.1.1) h.6)
 
-asked : (c : Option (ℕ × Cloned)) (P : Pairs → Type 0) → IsSome c → P (map_in c) → steps.Tells (kept c) P
+asked : (c : Option (ℕ × Cloned)) (P : Pairs → Type 0) → IsSome c → P (map_in c) → steps.OfKept (kept c) P
 asked None P s h = absurd cc
 asked (Some live) P s h = h
 
@@ -133,69 +123,69 @@ taken_within s slot h = go s.clones slot h
     go (c ∷ cs) (suc i) h = let r = go cs i h in omega (arith, r)
 
 pub stepped : (w : ℕ) (loads : Loads) (a b : State) (c : Command) (r : Reply) → IsWellFormed a → CanRun a loads c → Serves loads a c r b → steps.Steps (setting a.tables loads) (course w a) c r (course w b)
-stepped w loads a b (command.Table name) r ok can h = (
+stepped w loads a b (Command.Table name) r ok can h = (
   h.0,
   ap (λ (s : State). s.in_use) h.1 ∙ used (place_of a.tables.names name) a.in_use can,
   λ t. ap (λ (s : State). (course w s).passes t) h.1,
   λ n. ap (λ (s : State). (course w s).clones n) h.1,
 )
-stepped w loads a b (command.Put key value) r ok can h =
-    subst (λ (s : State). steps.Steps (setting a.tables loads) (course w a) (command.Put key value) r (course w s)) (sym h.1)
+stepped w loads a b (Command.Put key value) r ok can h =
+    subst (λ (s : State). steps.Steps (setting a.tables loads) (course w a) (Command.Put key value) r (course w s)) (sym h.1)
     (on_pass w a h.0 ok.a_table_in_use (steps.WriteAnswers a.tables.rows (Put key value) put_reply r) (wrote_step a.tables.rows (Put key value) put_reply (pass_in_use a) h.0 r h.2), λ n. refl)
-stepped w loads a b (command.Remove key) r ok can h =
-    subst (λ (s : State). steps.Steps (setting a.tables loads) (course w a) (command.Remove key) r (course w s)) (sym h.1)
+stepped w loads a b (Command.Remove key) r ok can h =
+    subst (λ (s : State). steps.Steps (setting a.tables loads) (course w a) (Command.Remove key) r (course w s)) (sym h.1)
     (on_pass w a h.0 ok.a_table_in_use (steps.WriteAnswers a.tables.rows (Remove key) remove_reply r) (wrote_step a.tables.rows (Remove key) remove_reply (pass_in_use a) h.0 r h.2), λ n. refl)
-stepped w loads a b (command.Get key) r ok can h =
-    subst (λ (s : State). steps.Steps (setting a.tables loads) (course w a) (command.Get key) r (course w s)) (sym h.1)
-    ((h.2, h.3, on_pass w a h.0 ok.a_table_in_use (λ old new. steps.Reads old new key h.2) (read (pass_in_use a) h.0 key h.2 h.4)), λ n. refl)
-stepped w loads a b (command.Load file) r ok can h =
-    subst (λ (s : State). steps.Steps (setting a.tables loads) (course w a) (command.Load file) r (course w s)) (sym h.1)
+stepped w loads a b (Command.Get key) r ok can h =
+    subst (λ (s : State). steps.Steps (setting a.tables loads) (course w a) (Command.Get key) r (course w s)) (sym h.1)
+    ((h.2, h.3, on_pass w a h.0 ok.a_table_in_use (λ old new. steps.TrackReads old new key h.2) (read (pass_in_use a) h.0 key h.2 h.4)), λ n. refl)
+stepped w loads a b (Command.Load file) r ok can h =
+    subst (λ (s : State). steps.Steps (setting a.tables loads) (course w a) (Command.Load file) r (course w s)) (sym h.1)
     (on_pass w a h.0 ok.a_table_in_use (steps.LoadAnswers a.tables.rows (pairs_of loads file) r) (loaded_step a.tables.rows (pairs_of loads file) (pass_in_use a) h.0 r h.2), λ n. refl)
-stepped w loads a b (command.Snap slot name) r ok can h =
+stepped w loads a b (Command.Snap slot name) r ok can h =
     let after : State = with_slot (with_pass a h.1) slot (Some (a.in_use, h.2)) in
-    subst (λ (s : State). steps.Steps (setting a.tables loads) (course w a) (command.Snap slot name) r (course w s)) (sym h.3) (
+    subst (λ (s : State). steps.Steps (setting a.tables loads) (course w a) (Command.Snap slot name) r (course w s)) (sym h.3) (
       h.0,
       h.2.base,
       h.2.next,
-      (let x = on_pass w a h.1 ok.a_table_in_use (λ old new. steps.Cuts old new h.2.base h.2.next) (cut (pass_in_use a) h.1 h.2 h.4) in record { here = x.here; others = x.others; in_use = refl }),
+      (let x = on_pass w a h.1 ok.a_table_in_use (λ old new. steps.TrackCuts old new h.2.base h.2.next) (cut (pass_in_use a) h.1 h.2 h.4) in record { here = x.here; others = x.others; in_use = refl }),
       slot_set w a after slot (Some (a.in_use, h.2)) (let f = can.0 in omega (arith, f, ok.a_place_each)) refl,
     )
-stepped w loads a b (command.Forget slot name) r ok can h =
-    subst (λ (s : State). steps.Steps (setting a.tables loads) (course w a) (command.Forget slot name) r (course w s)) (sym h.1)
+stepped w loads a b (Command.Forget slot name) r ok can h =
+    subst (λ (s : State). steps.Steps (setting a.tables loads) (course w a) (Command.Forget slot name) r (course w s)) (sym h.1)
     (h.0, asked (clone_at a slot) (λ _. Unit {0}) can tt, slot_set w a (with_slot a slot None) slot None (taken_within a slot can) refl, (λ t. refl), refl)
-stepped w loads a b (command.See slot key) r ok can h = (same w a b h.0, asked (clone_at a slot) (λ map. r ≡ value_reply (at map key)) can h.1)
-stepped w loads a b (command.First slot) r ok can h = (same w a b h.0, asked (clone_at a slot) (λ map. r ≡ pair_reply (first_pair map)) can h.1)
-stepped w loads a b (command.Last slot) r ok can h = (same w a b h.0, asked (clone_at a slot) (λ map. r ≡ pair_reply (last_pair map)) can h.1)
-stepped w loads a b (command.Floor slot key) r ok can h = (same w a b h.0, asked (clone_at a slot) (λ map. r ≡ pair_reply (floor map key)) can h.1)
-stepped w loads a b (command.Lower slot key) r ok can h = (same w a b h.0, asked (clone_at a slot) (λ map. r ≡ pair_reply (lower map key)) can h.1)
-stepped w loads a b (command.Ceiling slot key) r ok can h = (same w a b h.0, asked (clone_at a slot) (λ map. r ≡ pair_reply (ceiling map key)) can h.1)
-stepped w loads a b (command.Higher slot key) r ok can h = (same w a b h.0, asked (clone_at a slot) (λ map. r ≡ pair_reply (higher map key)) can h.1)
-stepped w loads a b (command.Count slot lo hi) r ok can h = (same w a b h.0, asked (clone_at a slot) (λ map. r ≡ reply.Count (min (count map lo hi) (2 ^ 64 - 1))) can h.1)
-stepped w loads a b (command.Export slot lo hi file) r ok can h = (same w a b h.0, asked (clone_at a slot) (λ map. r ≡ reply.Exported (count map lo hi)) can h.1)
-stepped w loads a b (command.Depth slot) r ok can h = measured_step w loads a b (clone_at a slot) r ok (ok.clones slot) h
+stepped w loads a b (Command.See slot key) r ok can h = (same w a b h.0, asked (clone_at a slot) (λ map. r ≡ value_reply (at map key)) can h.1)
+stepped w loads a b (Command.First slot) r ok can h = (same w a b h.0, asked (clone_at a slot) (λ map. r ≡ pair_reply (first_pair map)) can h.1)
+stepped w loads a b (Command.Last slot) r ok can h = (same w a b h.0, asked (clone_at a slot) (λ map. r ≡ pair_reply (last_pair map)) can h.1)
+stepped w loads a b (Command.Floor slot key) r ok can h = (same w a b h.0, asked (clone_at a slot) (λ map. r ≡ pair_reply (floor map key)) can h.1)
+stepped w loads a b (Command.Lower slot key) r ok can h = (same w a b h.0, asked (clone_at a slot) (λ map. r ≡ pair_reply (lower map key)) can h.1)
+stepped w loads a b (Command.Ceiling slot key) r ok can h = (same w a b h.0, asked (clone_at a slot) (λ map. r ≡ pair_reply (ceiling map key)) can h.1)
+stepped w loads a b (Command.Higher slot key) r ok can h = (same w a b h.0, asked (clone_at a slot) (λ map. r ≡ pair_reply (higher map key)) can h.1)
+stepped w loads a b (Command.Count slot lo hi) r ok can h = (same w a b h.0, asked (clone_at a slot) (λ map. r ≡ Reply.Count (min (count map lo hi) (2 ^ 64 - 1))) can h.1)
+stepped w loads a b (Command.Export slot lo hi file) r ok can h = (same w a b h.0, asked (clone_at a slot) (λ map. r ≡ Reply.Exported (count map lo hi)) can h.1)
+stepped w loads a b (Command.Depth slot) r ok can h = measured_step w loads a b (clone_at a slot) r ok (ok.clones slot) h
 
 measured_tables : (a b : State) (c : Option (ℕ × Cloned)) (r : Reply) → Measured c a r b → b.tables ≡ a.tables
 measured_tables a b None r h = absurd h
 measured_tables a b (Some live) r h = ap (λ (s : State). s.tables) h.2
 
 pub tables_stay : (loads : Loads) (a b : State) (c : Command) (r : Reply) → Serves loads a c r b → b.tables ≡ a.tables
-tables_stay loads a b (command.Table name) r h = ap (λ (s : State). s.tables) h.1
-tables_stay loads a b (command.Put key value) r h = ap (λ (s : State). s.tables) h.1
-tables_stay loads a b (command.Remove key) r h = ap (λ (s : State). s.tables) h.1
-tables_stay loads a b (command.Get key) r h = ap (λ (s : State). s.tables) h.1
-tables_stay loads a b (command.Load file) r h = ap (λ (s : State). s.tables) h.1
-tables_stay loads a b (command.Snap slot name) r h = ap (λ (s : State). s.tables) h.3
-tables_stay loads a b (command.Forget slot name) r h = ap (λ (s : State). s.tables) h.1
-tables_stay loads a b (command.See slot key) r h = ap (λ (s : State). s.tables) h.0
-tables_stay loads a b (command.First slot) r h = ap (λ (s : State). s.tables) h.0
-tables_stay loads a b (command.Last slot) r h = ap (λ (s : State). s.tables) h.0
-tables_stay loads a b (command.Floor slot key) r h = ap (λ (s : State). s.tables) h.0
-tables_stay loads a b (command.Lower slot key) r h = ap (λ (s : State). s.tables) h.0
-tables_stay loads a b (command.Ceiling slot key) r h = ap (λ (s : State). s.tables) h.0
-tables_stay loads a b (command.Higher slot key) r h = ap (λ (s : State). s.tables) h.0
-tables_stay loads a b (command.Count slot lo hi) r h = ap (λ (s : State). s.tables) h.0
-tables_stay loads a b (command.Export slot lo hi file) r h = ap (λ (s : State). s.tables) h.0
-tables_stay loads a b (command.Depth slot) r h = measured_tables a b (clone_at a slot) r h
+tables_stay loads a b (Command.Table name) r h = ap (λ (s : State). s.tables) h.1
+tables_stay loads a b (Command.Put key value) r h = ap (λ (s : State). s.tables) h.1
+tables_stay loads a b (Command.Remove key) r h = ap (λ (s : State). s.tables) h.1
+tables_stay loads a b (Command.Get key) r h = ap (λ (s : State). s.tables) h.1
+tables_stay loads a b (Command.Load file) r h = ap (λ (s : State). s.tables) h.1
+tables_stay loads a b (Command.Snap slot name) r h = ap (λ (s : State). s.tables) h.3
+tables_stay loads a b (Command.Forget slot name) r h = ap (λ (s : State). s.tables) h.1
+tables_stay loads a b (Command.See slot key) r h = ap (λ (s : State). s.tables) h.0
+tables_stay loads a b (Command.First slot) r h = ap (λ (s : State). s.tables) h.0
+tables_stay loads a b (Command.Last slot) r h = ap (λ (s : State). s.tables) h.0
+tables_stay loads a b (Command.Floor slot key) r h = ap (λ (s : State). s.tables) h.0
+tables_stay loads a b (Command.Lower slot key) r h = ap (λ (s : State). s.tables) h.0
+tables_stay loads a b (Command.Ceiling slot key) r h = ap (λ (s : State). s.tables) h.0
+tables_stay loads a b (Command.Higher slot key) r h = ap (λ (s : State). s.tables) h.0
+tables_stay loads a b (Command.Count slot lo hi) r h = ap (λ (s : State). s.tables) h.0
+tables_stay loads a b (Command.Export slot lo hi file) r h = ap (λ (s : State). s.tables) h.0
+tables_stay loads a b (Command.Depth slot) r h = measured_tables a b (clone_at a slot) r h
 
 pub serves_on : (loads : Loads) (a b : State) (c : Command) (r : Reply) → IsWellFormed a → CanRun a loads c → Serves loads a c r b → ServesOn loads a c r b
 serves_on loads a b c r ok can h w cs rs es v =

@@ -1,29 +1,17 @@
 -- What the closed tables tell of a session whose kit was admitted.
-use Rattle.std.specs.Prelude.{◌⊎◌, slice_get}
-use Rattle.std.proofs.Common.{zero, suc, ◌≡◌, ◌≢◌, ◌≤◌, ◌<◌, ◌+◌, ◌-◌, eq-eqb, ne_eqb, ℕ, Bool, cond, List, [], ◌∷◌, ◌++◌, length, Option, Some, None, inl, inr, refl, ap, sym, ◌∙◌, subst, arith}
-use Rattle.std.proofs.lemmas.Option.{slice_get-get_or, slice_get_past}
-use native.Mathlib.Decide.{ℕ_discrete, dec_lt}
-use mathlib.Core.Logic.{dite}
+use Rattle.std.proofs.Common.{zero, suc, ◌≡◌, ◌≢◌, ◌≤◌, ◌<◌, ◌+◌, ◌-◌, eq-eqb, ne_eqb, ℕ, Bool, cond, List, [], ◌∷◌, ◌++◌, length, Option, Some, None, inl, inr, refl, ap, sym, ◌∙◌, subst, arith, ◌⊎◌, slice_get}
+use Rattle.snap_prelude.proofs.Common.{dec_lt, dite, one_same, slice_get-get_or}
+use Rattle.snap_prelude.proofs.Common.{slice_get_past, term_le, ℕ_discrete}
 use Rattle.snap_fits.specs.Sessions.{Covers}
 use Rattle.snap_fits.proofs.Prefixes.{begins_is, begins_refl}
-use Rattle.snap_model.specs.History.{calls_of}
-use Rattle.snap_model.specs.declared.call.Entry.{Entry}
-use Rattle.snap_rule.specs.State.{In}
-use Rattle.snap_steps.specs.Counting.{total, times, one_if}
-use Rattle.snap_steps.specs.Ending.{Ended, Closes}
-use Rattle.snap_steps.specs.Numbers.{admitted_of, numbers, numbers_of}
-use Rattle.snap_steps.specs.Roles.{own_number}
-use Rattle.snap_steps.specs.Rule.History.{AreTheirs}
-use Rattle.snap_steps.specs.Rule.Names.{names}
-use Rattle.snap_steps.specs.Seen.{Known}
-use Rattle.snap_steps.specs.declared.view.Admitted.{Admitted}
-use Rattle.snap_steps.specs.declared.view.Role.TheVariants.{Passing}
-use Rattle.snap_steps.specs.declared.view.View.{View}
-use Rattle.snap_steps.proofs.Totals.{one_same, term_le}
-use Rattle.snap_service.specs.Courses.{cuts_among, cuts_of, front_of, fronts_of, setting, track}
-use Rattle.snap_service.specs.Kits.{Admits, AreClosed, CoversAll, HasFinal, IsCallers, NotedTheirs, OnlyWorkers, SpeaksFor}
+use Rattle.snap_prelude.specs.{Admitted, admitted_of, AreTheirs, calls_of, Closes}
+use Rattle.snap_prelude.specs.{Ended, Entry, In, Known, names, numbers, numbers_of}
+use Rattle.snap_prelude.specs.{one_if, own_number, Passing, times, total, View}
+use Rattle.snap_service.specs.Prelude.{Admits, AreClosed, AreSeated, AreTables, CoversAll}
+use Rattle.snap_service.specs.Prelude.{cuts_among, cuts_of, front_of, fronts_of, HasFinal}
+use Rattle.snap_service.specs.Prelude.{IsCallers, nobody, NotedTheirs, OnlyWorkers}
+use Rattle.snap_service.specs.Prelude.{pass_at, setting, SpeaksFor, State, Tables, track}
 use Rattle.snap_text.specs.LoadFiles.{Loads}
-use Rattle.snap_service.specs.States.{AreSeated, AreTables, State, Tables, nobody, pass_at}
 
 -- an admitted number stands among the numbers
 pub listed_number : (a : Admitted) (l : List Admitted) → In a l → 0 < times a.who (numbers_of l)
@@ -100,7 +88,7 @@ covers_one tables loads w p k f c sp number passing rows passes own noted =
     cuts : cuts_of k.view w ≡ p.view.cuts
     cuts = ap (cuts_of k.view) (sym number) ∙ cuts_are k.view f k refl c passing (admitted_of p.view) sp.listed
 
-    theirs : 0 < p.view.epochs → 0 < total (λ (x : Admitted). length x.cuts) k.view.admitted
+    theirs : 0 < p.view.noted.epochs → 0 < total (λ (x : Admitted). length x.cuts) k.view.admitted
     theirs h = elim noted [
       | inl e ↦ omega (arith, h, sp.epochs, c.epochs, ap length e)
       | inr n ↦ omega (arith, h, sp.epochs, n)

@@ -1,15 +1,11 @@
 -- Kits that are admitted, and tables that are closed, from the last one to the first.
-use Rattle.std.specs.Prelude.{◌⊎◌, slice_get, slice_set, reverse, unwrap_or}
-use Rattle.std.proofs.Common.{zero, suc, ◌≡◌, ◌≤◌, ◌<◌, ◌+◌, ◌-◌, ℕ, List, [], ◌∷◌, ◌++◌, length, get_or, take, Option, Some, inl, inr, refl, ap, sym, ◌∙◌, subst, arith, length-append}
-use native.Mathlib.Decide.{ℕ_discrete}
-use mathlib.Core.Logic.{dite}
-use Rattle.std.proofs.lemmas.List.{get_or-take, get_or_read, get_or-set_same, get_or-set_other, get_or-reverse}
+use Rattle.std.proofs.Common.{zero, suc, ◌≡◌, ◌≤◌, ◌<◌, ◌+◌, ◌-◌, ℕ, List, [], ◌∷◌, ◌++◌, length, get_or, take, Option, Some, inl, inr, refl, ap, sym, ◌∙◌, subst, arith, length-append, ◌⊎◌, slice_get, slice_index_or, slice_set, reverse, unwrap_or}
+use Rattle.snap_prelude.proofs.Common.{dite, get_or-reverse, get_or-set_other}
+use Rattle.snap_prelude.proofs.Common.{get_or-set_same, get_or-take, get_or_read}
+use Rattle.snap_prelude.proofs.Common.{slice_get-get_or, slice_get_within, ℕ_discrete}
 use Rattle.std.proofs.Math.Seq.{take-append_seam}
-use Rattle.std.proofs.lemmas.Option.{slice_get-get_or, slice_get_within}
-use Rattle.snap_steps.specs.Ending.{Ended, Closes}
-use Rattle.snap_steps.specs.Seen.{Known, Laid}
-use Rattle.snap_service.specs.Kits.{AreClosed, Joins}
-use Rattle.snap_service.specs.States.{IsSeated, nobody, pass_at}
+use Rattle.snap_prelude.specs.{Closes, Ended, Known, Laid}
+use Rattle.snap_service.specs.Prelude.{AreClosed, IsSeated, Joins, nobody, nowhere, pass_at}
 
 some_is : {X : Type 0} (x y : X) → Some x ≡ Some y → x ≡ y
 some_is {X} x y e = ap (λ (o : Option X). unwrap_or o x) e
@@ -47,6 +43,12 @@ module _ (ended passes0 passes : List Known) (left place : ℕ) (old pass new : 
       (subst (λ (k : Known). Joins (pass_at passes0 place) k new) last
       (subst (λ (k : Known). Joins k pass new) (get_or_read passes place old within here nobody ∙ later place (omega (arith, one))) joins))))
       (λ n. subst (λ (k : Known). Joins (pass_at passes0 t) (pass_at ended t) k) (sym (get_or-set_other passes place t new nobody n)) (joined t (omega (arith, l, n, one)) m))
+
+-- the pass that is taken of those left, at its table
+pub taken_seated : (tables : List Laid) (ended left fewer : List Known) (pass : Known) (place : ℕ) (table : Laid) → left ≡ take (length left) ended → left ≡ fewer ++ pass ∷ [] → place ≡ length fewer → (within : place < length tables) → table ≡ get_or tables place table → IsSeated (slice_index_or tables place nowhere) (pass_at ended place) → IsSeated table pass
+taken_seated tables ended left fewer pass place table is e at within here seated =
+    subst (λ (x : Laid). IsSeated x pass) (sym (get_or_read tables place table within here nowhere))
+    (subst (IsSeated (slice_index_or tables place nowhere)) (sym (last_is ended left fewer pass is e nobody ∙ ap (pass_at ended) (sym at))) seated)
 
 -- an admitting pass stays idle
 pub seat_joined : (rows : Laid) (old receipt new : Known) → IsSeated rows old → Joins old receipt new → IsSeated rows new

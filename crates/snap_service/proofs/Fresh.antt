@@ -1,13 +1,11 @@
 -- A session on a new kit has met no commands.
-use Rattle.std.specs.Prelude.{replicate, slice_get, slice_index_or}
-use Rattle.std.proofs.Common.{zero, suc, ◌≡◌, ℕ, false, List, [], ◌∷◌, length, Option, None, arith, refl, ap, sym, ◌∙◌, subst}
+use Rattle.std.proofs.Common.{zero, suc, ◌≡◌, ℕ, false, List, [], ◌∷◌, length, Option, None, arith, refl, ap, sym, ◌∙◌, subst, replicate, slice_get, slice_index_or}
 use Rattle.snap_fits.specs.Sessions.{Track}
 use Rattle.snap_fits.proofs.Runs.{served_begins}
-use Rattle.snap_steps.specs.Clones.{Cloned}
-use Rattle.snap_steps.specs.Seen.{Known, Laid}
-use Rattle.snap_service.specs.Courses.{course, kept, setting, track}
-use Rattle.snap_service.specs.Runs.{HasServed, IsFresh}
-use Rattle.snap_service.specs.States.{AreSeated, AreTables, FitsSlot, IsWellFormed, State, Tables, free_slots, new_kit, opened}
+use Rattle.snap_prelude.specs.{Cloned, Known, Laid}
+use Rattle.snap_service.specs.Prelude.{AreSeated, AreTables, course, FitsSlot, free_slots}
+use Rattle.snap_service.specs.Prelude.{HasServed, IsFresh, IsWellFormed, kept, new_kit}
+use Rattle.snap_service.specs.Prelude.{opened, setting, State, Tables, track}
 
 none_kept : (n i : ℕ) → kept (slice_index_or (replicate n None) i None) ≡ None
 none_kept zero i = refl

@@ -1,16 +1,13 @@
 -- The depth of a clone, by the answers of its view.
 use Rattle.std.proofs.Common.{◌≡◌, ◌≤◌, ◌<◌, ◌^◌, ◌*◌, ℕ, Bool, false, length, refl, ap, ◌∙◌, subst}
-use Rattle.snap_model.specs.History.{after}
-use Rattle.snap_model.specs.SortedMap.{Pairs, count}
+use Rattle.snap_prelude.specs.{after, Cloned, count, depth, image}
+use Rattle.snap_prelude.specs.{IsCloneOf, IsSettledTree, least, Pairs}
 use Rattle.snap_model.specs.declared.command.Reply.TheVariants as reply
-use Rattle.snap_rule.specs.Settled.{IsSettledTree, least}
-use Rattle.snap_rule.specs.Tree.{depth}
-use Rattle.snap_steps.specs.Clones.{Cloned, IsCloneOf, image}
 use Rattle.snap_view.specs.Balances.{TellsBalance}
 use Rattle.snap_view.specs.declared.balance.Settled.{Settled}
 use Rattle.snap_view.specs.declared.balance.Settled.TheVariants.{Yes, RowsOut, StampOut}
 use Rattle.snap_view.proofs.Neighbours.{clone_rises, whole_range}
-use Rattle.snap_service.specs.Serving.{Measures, is_yes}
+use Rattle.snap_service.specs.Prelude.{is_yes, Measures}
 
 pub not_yes : (b : Settled) → ¬ (b ≡ Yes) → false ≡ is_yes b
 not_yes Yes n = absurd (n refl)

@@ -1,10 +1,8 @@
 -- The greatest notes.
-use Rattle.std.proofs.Common.{◌≡◌, ◌≤◌, ◌<◌, eqb, ℕ, zero, suc, cond, Bool, true, false, List, [], ◌∷◌, inl, inr, refl, ap, subst, arith, le-ltb}
-use Rattle.std.specs.Prelude.{nat_lt}
-use Rattle.snap_rule.specs.State.{In}
-use Rattle.snap_steps.specs.Steps.Header.{all_handed, all_epochs, handed_after, epochs_after}
-use Rattle.snap_steps.specs.declared.view.WordNote.{WordNote}
-use Rattle.snap_steps.specs.declared.view.WordNote.TheVariants.{Next, Gate, Left, Done, Epoch, Birth, Trouble}
+use Rattle.std.proofs.Common.{◌≡◌, ◌≤◌, ◌<◌, eqb, ℕ, zero, suc, cond, Bool, true, false, List, [], ◌∷◌, inl, inr, refl, ap, subst, arith, le-ltb, nat_lt}
+use Rattle.snap_prelude.specs.{all_epochs, all_handed, Done, Epoch, epochs_after}
+use Rattle.snap_prelude.specs.{Gate, handed_after, In, Next, Trouble, WordNote}
+use Rattle.snap_steps.specs.declared.view.WordNote.TheVariants.{Left, Birth}
 use Rattle.snap_update.specs.Answers.{is_older, older_births}
 
 one_handed : (h : ℕ) (n : WordNote) → h ≤ handed_after h n

@@ -1,14 +1,10 @@
 -- New tables and the kits of their passes.
-use Rattle.std.specs.Prelude.{All, replicate, slice_index_or}
-use Rattle.std.proofs.Common.{zero, suc, ◌≡◌, ◌<◌, ◌+◌, ℕ, List, [], ◌∷◌, ◌++◌, length, get_or, refl, ap, sym, ◌∙◌, subst, arith, length-append}
-use native.Mathlib.Decide.{ℕ_discrete}
-use mathlib.Core.Logic.{dite}
-use Rattle.std.proofs.lemmas.List.{get_or-map, length-map, map-append}
+use Rattle.std.proofs.Common.{zero, suc, ◌≡◌, ◌<◌, ◌+◌, ℕ, List, [], ◌∷◌, ◌++◌, length, get_or, refl, ap, sym, ◌∙◌, subst, arith, length-append, All, replicate, slice_index_or}
+use Rattle.snap_prelude.proofs.Common.{dite, get_or-map, length-map, map-append, ℕ_discrete}
 use Rattle.atomic_table.specs.Seated.{TableId}
-use Rattle.snap_steps.specs.Roles.{newcomer}
-use Rattle.snap_steps.specs.Seen.{Known, Laid, first_passes, IsOpened}
-use Rattle.snap_service.specs.Kits.{IsUncut}
-use Rattle.snap_service.specs.States.{AreDealt, AreNewKits, AreSeated, IsSeated, Tables, new_kit, new_pass, nobody, nowhere, pass_at, table_at}
+use Rattle.snap_prelude.specs.{first_passes, IsOpened, Known, Laid, newcomer}
+use Rattle.snap_service.specs.Prelude.{AreDealt, AreNewKits, AreSeated, IsSeated, IsUncut, new_kit}
+use Rattle.snap_service.specs.Prelude.{new_pass, nobody, nowhere, pass_at, table_at, Tables}
 
 pub first_many : (table : TableId) (rows passes n : ℕ) → length (first_passes table rows passes n) ≡ n
 first_many table rows passes zero = refl

@@ -1,15 +1,12 @@
 -- Scripts use slots of their own count; a session that begins has the same slots free.
-use Rattle.std.proofs.Common.{suc, zero, ◌≡◌, ℕ, Bool, true, false, get_or, List, [], ◌∷◌, Option, Some, None, refl, subst}
-use Rattle.std.specs.Prelude.{map, is_some, slice_get}
-use Rattle.std.proofs.lemmas.List.{map-set}
-use Rattle.snap_model.specs.declared.command.Command.{Command}
-use Rattle.snap_model.specs.declared.command.Command.TheVariants as command
+use Rattle.std.proofs.Common.{suc, zero, ◌≡◌, ℕ, Bool, true, false, get_or, List, [], ◌∷◌, Option, Some, None, refl, subst, map, is_some, slice_get}
+use Rattle.snap_prelude.proofs.Common.{map-set}
+use Rattle.snap_prelude.specs.{Command}
 use Rattle.snap_text.specs.declared.script.Line.{Line}
 use Rattle.snap_text.specs.Clones.{Slots, all_free}
 use Rattle.snap_text.specs.Uses.{AllUseSlots, UsesSlots, slots_after}
 use Rattle.snap_text.specs.LoadFiles.{Loads}
-use Rattle.snap_service.specs.States.{State, free_slots}
-use Rattle.snap_service.specs.Runs.{CanRunAll}
+use Rattle.snap_service.specs.Prelude.{CanRunAll, free_slots, State}
 use Rattle.snap_service.proofs.Slots.{AllFitSlots, AllServed, FitsSlots, can_run_new, taken, taken_after}
 
 -- the mark of a slot that is there
@@ -19,42 +16,42 @@ mark_of (first ∷ slots) zero place d is = cc
 mark_of (first ∷ slots) (suc slot) place d is = mark_of slots slot place d is
 
 fits : (slots : Slots) (c : Command) → UsesSlots slots c → FitsSlots (taken slots) c
-fits slots (command.Table name) uses = tt
-fits slots (command.Put key value) uses = tt
-fits slots (command.Remove key) uses = tt
-fits slots (command.Get key) uses = tt
-fits slots (command.Snap slot name) uses = mark_of slots slot None true uses
-fits slots (command.Forget slot name) uses = mark_of slots slot (Some uses.0) false uses.1
-fits slots (command.See slot key) uses = mark_of slots slot (Some uses.0) false uses.1
-fits slots (command.First slot) uses = mark_of slots slot (Some uses.0) false uses.1
-fits slots (command.Last slot) uses = mark_of slots slot (Some uses.0) false uses.1
-fits slots (command.Floor slot key) uses = mark_of slots slot (Some uses.0) false uses.1
-fits slots (command.Lower slot key) uses = mark_of slots slot (Some uses.0) false uses.1
-fits slots (command.Ceiling slot key) uses = mark_of slots slot (Some uses.0) false uses.1
-fits slots (command.Higher slot key) uses = mark_of slots slot (Some uses.0) false uses.1
-fits slots (command.Count slot lo hi) uses = mark_of slots slot (Some uses.0) false uses.1
-fits slots (command.Depth slot) uses = mark_of slots slot (Some uses.0) false uses.1
-fits slots (command.Export slot lo hi file) uses = mark_of slots slot (Some uses.0) false uses.1
-fits slots (command.Load file) uses = tt
+fits slots (Command.Table name) uses = tt
+fits slots (Command.Put key value) uses = tt
+fits slots (Command.Remove key) uses = tt
+fits slots (Command.Get key) uses = tt
+fits slots (Command.Snap slot name) uses = mark_of slots slot None true uses
+fits slots (Command.Forget slot name) uses = mark_of slots slot (Some uses.0) false uses.1
+fits slots (Command.See slot key) uses = mark_of slots slot (Some uses.0) false uses.1
+fits slots (Command.First slot) uses = mark_of slots slot (Some uses.0) false uses.1
+fits slots (Command.Last slot) uses = mark_of slots slot (Some uses.0) false uses.1
+fits slots (Command.Floor slot key) uses = mark_of slots slot (Some uses.0) false uses.1
+fits slots (Command.Lower slot key) uses = mark_of slots slot (Some uses.0) false uses.1
+fits slots (Command.Ceiling slot key) uses = mark_of slots slot (Some uses.0) false uses.1
+fits slots (Command.Higher slot key) uses = mark_of slots slot (Some uses.0) false uses.1
+fits slots (Command.Count slot lo hi) uses = mark_of slots slot (Some uses.0) false uses.1
+fits slots (Command.Depth slot) uses = mark_of slots slot (Some uses.0) false uses.1
+fits slots (Command.Export slot lo hi file) uses = mark_of slots slot (Some uses.0) false uses.1
+fits slots (Command.Load file) uses = tt
 
 marks_after : (slots : Slots) (c : Command) → taken (slots_after slots c) ≡ taken_after (taken slots) c
-marks_after slots (command.Table name) = refl
-marks_after slots (command.Put key value) = refl
-marks_after slots (command.Remove key) = refl
-marks_after slots (command.Get key) = refl
-marks_after slots (command.Snap slot name) = map-set is_some slots slot (Some name)
-marks_after slots (command.Forget slot name) = map-set is_some slots slot None
-marks_after slots (command.See slot key) = refl
-marks_after slots (command.First slot) = refl
-marks_after slots (command.Last slot) = refl
-marks_after slots (command.Floor slot key) = refl
-marks_after slots (command.Lower slot key) = refl
-marks_after slots (command.Ceiling slot key) = refl
-marks_after slots (command.Higher slot key) = refl
-marks_after slots (command.Count slot lo hi) = refl
-marks_after slots (command.Depth slot) = refl
-marks_after slots (command.Export slot lo hi file) = refl
-marks_after slots (command.Load file) = refl
+marks_after slots (Command.Table name) = refl
+marks_after slots (Command.Put key value) = refl
+marks_after slots (Command.Remove key) = refl
+marks_after slots (Command.Get key) = refl
+marks_after slots (Command.Snap slot name) = map-set is_some slots slot (Some name)
+marks_after slots (Command.Forget slot name) = map-set is_some slots slot None
+marks_after slots (Command.See slot key) = refl
+marks_after slots (Command.First slot) = refl
+marks_after slots (Command.Last slot) = refl
+marks_after slots (Command.Floor slot key) = refl
+marks_after slots (Command.Lower slot key) = refl
+marks_after slots (Command.Ceiling slot key) = refl
+marks_after slots (Command.Higher slot key) = refl
+marks_after slots (Command.Count slot lo hi) = refl
+marks_after slots (Command.Depth slot) = refl
+marks_after slots (Command.Export slot lo hi file) = refl
+marks_after slots (Command.Load file) = refl
 
 all_fit : (slots : Slots) (ls : List Line) → AllUseSlots slots ls → AllFitSlots (taken slots) (map (λ l. l.command) ls)
 all_fit slots [] uses = tt

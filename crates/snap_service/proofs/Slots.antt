@@ -1,16 +1,11 @@
 -- Which slots are taken decides whether commands can be run, where the named tables and files are there and values fit.
-use Rattle.std.proofs.Common.{suc, zero, ◌≡◌, ◌<◌, ℕ, Bool, true, false, length, get_or, List, [], ◌∷◌, Option, Some, None, refl, sym, ◌∙◌, ap, subst, arith}
-use Rattle.std.specs.Prelude.{All, map, replicate, is_some, slice_index_or, slice_set, IsSome, IsNone}
-use Rattle.std.proofs.lemmas.List.{length-set, map-set}
-use Rattle.snap_model.specs.declared.command.Command.{Command}
-use Rattle.snap_model.specs.declared.command.Command.TheVariants as command
-use Rattle.snap_model.specs.declared.command.Reply.{Reply}
-use Rattle.snap_steps.specs.Clones.{Cloned}
-use Rattle.snap_steps.specs.Seen.{Known}
+use Rattle.std.proofs.Common.{suc, zero, ◌≡◌, ◌<◌, ℕ, Bool, true, false, length, get_or, List, [], ◌∷◌, Option, Some, None, refl, sym, ◌∙◌, ap, subst, arith, All, map, replicate, is_some, slice_index_or, slice_set, IsSome, IsNone}
+use Rattle.snap_prelude.proofs.Common.{length-set, map-set}
+use Rattle.snap_prelude.specs.{Cloned, Command, Known, Reply}
 use Rattle.snap_text.specs.LoadFiles.{Loads, HasFile, pairs_of}
-use Rattle.snap_service.specs.States.{State, clone_at, free_slots, place_of, slots, with_pass, with_pass_at, with_slot, with_use}
-use Rattle.snap_service.specs.Serving.{CanRun, FitsValue, Measured, Serves}
-use Rattle.snap_service.specs.Runs.{CanRunAll}
+use Rattle.snap_service.specs.Prelude.{CanRun, CanRunAll, clone_at, FitsValue, free_slots}
+use Rattle.snap_service.specs.Prelude.{Measured, place_of, Serves, slots, State}
+use Rattle.snap_service.specs.Prelude.{with_pass, with_pass_at, with_slot, with_use}
 
 -- of each slot, whether it is taken
 abbrev pub taken : {X : Type 0} → List (Option X) → List Bool
@@ -23,8 +18,8 @@ taken-replicate X (suc n) = ap (λ (marks : List Bool). false ∷ marks) (taken-
 
 -- the slots after a command
 abbrev pub taken_after : List Bool → Command → List Bool
-taken_after marks (command.Snap slot name) = slice_set marks slot true
-taken_after marks (command.Forget slot name) = slice_set marks slot false
+taken_after marks (Command.Snap slot name) = slice_set marks slot true
+taken_after marks (Command.Forget slot name) = slice_set marks slot false
 taken_after marks _ = marks
 
 abbrev pub IsMarked : List Bool → ℕ → Type 0
@@ -32,23 +27,23 @@ IsMarked marks slot = slice_index_or marks slot false ≡ true
 
 -- the command clones into a free slot, or names a taken one
 abbrev pub FitsSlots : List Bool → Command → Type 0
-FitsSlots marks (command.Table name) = Unit {0}
-FitsSlots marks (command.Put key value) = Unit {0}
-FitsSlots marks (command.Remove key) = Unit {0}
-FitsSlots marks (command.Get key) = Unit {0}
-FitsSlots marks (command.Snap slot name) = slice_index_or marks slot true ≡ false
-FitsSlots marks (command.Forget slot name) = IsMarked marks slot
-FitsSlots marks (command.See slot key) = IsMarked marks slot
-FitsSlots marks (command.First slot) = IsMarked marks slot
-FitsSlots marks (command.Last slot) = IsMarked marks slot
-FitsSlots marks (command.Floor slot key) = IsMarked marks slot
-FitsSlots marks (command.Lower slot key) = IsMarked marks slot
-FitsSlots marks (command.Ceiling slot key) = IsMarked marks slot
-FitsSlots marks (command.Higher slot key) = IsMarked marks slot
-FitsSlots marks (command.Count slot lo hi) = IsMarked marks slot
-FitsSlots marks (command.Depth slot) = IsMarked marks slot
-FitsSlots marks (command.Export slot lo hi file) = IsMarked marks slot
-FitsSlots marks (command.Load file) = Unit {0}
+FitsSlots marks (Command.Table name) = Unit {0}
+FitsSlots marks (Command.Put key value) = Unit {0}
+FitsSlots marks (Command.Remove key) = Unit {0}
+FitsSlots marks (Command.Get key) = Unit {0}
+FitsSlots marks (Command.Snap slot name) = slice_index_or marks slot true ≡ false
+FitsSlots marks (Command.Forget slot name) = IsMarked marks slot
+FitsSlots marks (Command.See slot key) = IsMarked marks slot
+FitsSlots marks (Command.First slot) = IsMarked marks slot
+FitsSlots marks (Command.Last slot) = IsMarked marks slot
+FitsSlots marks (Command.Floor slot key) = IsMarked marks slot
+FitsSlots marks (Command.Lower slot key) = IsMarked marks slot
+FitsSlots marks (Command.Ceiling slot key) = IsMarked marks slot
+FitsSlots marks (Command.Higher slot key) = IsMarked marks slot
+FitsSlots marks (Command.Count slot lo hi) = IsMarked marks slot
+FitsSlots marks (Command.Depth slot) = IsMarked marks slot
+FitsSlots marks (Command.Export slot lo hi file) = IsMarked marks slot
+FitsSlots marks (Command.Load file) = Unit {0}
 
 -- each command does, as those before it leave the slots
 abbrev pub AllFitSlots : List Bool → List Command → Type 0
@@ -57,9 +52,9 @@ AllFitSlots marks (c ∷ cs) = FitsSlots marks c × AllFitSlots (taken_after mar
 
 -- a session has the command, the table or the file that it names, and room for its values
 abbrev pub IsServed : List (List ℕ) → Loads → Command → Type 0
-IsServed names loads (command.Table name) = IsSome (place_of names name)
-IsServed names loads (command.Put key value) = FitsValue value
-IsServed names loads (command.Load file) = HasFile loads file × All (λ (pair : ℕ × ℕ). FitsValue pair.1) (pairs_of loads file)
+IsServed names loads (Command.Table name) = IsSome (place_of names name)
+IsServed names loads (Command.Put key value) = FitsValue value
+IsServed names loads (Command.Load file) = HasFile loads file × All (λ (pair : ℕ × ℕ). FitsValue pair.1) (pairs_of loads file)
 IsServed names loads _ = Unit {0}
 
 abbrev pub AllServed : List (List ℕ) → Loads → List Command → Type 0
@@ -78,23 +73,23 @@ unmarked (place ∷ places) zero is = (omega arith, is)
 unmarked (place ∷ places) (suc i) is = let rest = unmarked places i is in (omega (arith, rest.0), rest.1)
 
 can_run : (s : State) (loads : Loads) (c : Command) → length s.clones ≡ slots → FitsSlots (taken s.clones) c → IsServed s.tables.names loads c → CanRun s loads c
-can_run s loads (command.Table name) places fits served = served
-can_run s loads (command.Put key value) places fits served = served
-can_run s loads (command.Remove key) places fits served = tt
-can_run s loads (command.Get key) places fits served = tt
-can_run s loads (command.Snap slot name) places fits served = let free = unmarked s.clones slot fits in (omega (arith, free.0, places), free.1)
-can_run s loads (command.Forget slot name) places fits served = marked s.clones slot fits
-can_run s loads (command.See slot key) places fits served = marked s.clones slot fits
-can_run s loads (command.First slot) places fits served = marked s.clones slot fits
-can_run s loads (command.Last slot) places fits served = marked s.clones slot fits
-can_run s loads (command.Floor slot key) places fits served = marked s.clones slot fits
-can_run s loads (command.Lower slot key) places fits served = marked s.clones slot fits
-can_run s loads (command.Ceiling slot key) places fits served = marked s.clones slot fits
-can_run s loads (command.Higher slot key) places fits served = marked s.clones slot fits
-can_run s loads (command.Count slot lo hi) places fits served = marked s.clones slot fits
-can_run s loads (command.Depth slot) places fits served = marked s.clones slot fits
-can_run s loads (command.Export slot lo hi file) places fits served = marked s.clones slot fits
-can_run s loads (command.Load file) places fits served = served
+can_run s loads (Command.Table name) places fits served = served
+can_run s loads (Command.Put key value) places fits served = served
+can_run s loads (Command.Remove key) places fits served = tt
+can_run s loads (Command.Get key) places fits served = tt
+can_run s loads (Command.Snap slot name) places fits served = let free = unmarked s.clones slot fits in (omega (arith, free.0, places), free.1)
+can_run s loads (Command.Forget slot name) places fits served = marked s.clones slot fits
+can_run s loads (Command.See slot key) places fits served = marked s.clones slot fits
+can_run s loads (Command.First slot) places fits served = marked s.clones slot fits
+can_run s loads (Command.Last slot) places fits served = marked s.clones slot fits
+can_run s loads (Command.Floor slot key) places fits served = marked s.clones slot fits
+can_run s loads (Command.Lower slot key) places fits served = marked s.clones slot fits
+can_run s loads (Command.Ceiling slot key) places fits served = marked s.clones slot fits
+can_run s loads (Command.Higher slot key) places fits served = marked s.clones slot fits
+can_run s loads (Command.Count slot lo hi) places fits served = marked s.clones slot fits
+can_run s loads (Command.Depth slot) places fits served = marked s.clones slot fits
+can_run s loads (Command.Export slot lo hi file) places fits served = marked s.clones slot fits
+can_run s loads (Command.Load file) places fits served = served
 
 -- what a command leaves of the slots and of the names
 record Leaves (a b : State) (marks : List Bool) : Type 0 where
@@ -119,25 +114,25 @@ measured_leaves a b None r h = absurd h
 measured_leaves a b (Some live) r h = left_by a b (with_pass_at a live.0 h.1) (taken a.clones) h.2 (pass_leaves a live.0 h.1)
 
 leaves : (a : State) (loads : Loads) (c : Command) (r : Reply) (b : State) → Serves loads a c r b → Leaves a b (taken_after (taken a.clones) c)
-leaves a loads (command.Table name) r b h = left_by a b (with_use a name) (taken a.clones) h.1 (use_leaves a name)
-leaves a loads (command.Put key value) r b h = left_by a b (with_pass a h.0) (taken a.clones) h.1 (pass_leaves a a.in_use h.0)
-leaves a loads (command.Remove key) r b h = left_by a b (with_pass a h.0) (taken a.clones) h.1 (pass_leaves a a.in_use h.0)
-leaves a loads (command.Get key) r b h = left_by a b (with_pass a h.0) (taken a.clones) h.1 (pass_leaves a a.in_use h.0)
-leaves a loads (command.Snap slot name) r b h =
+leaves a loads (Command.Table name) r b h = left_by a b (with_use a name) (taken a.clones) h.1 (use_leaves a name)
+leaves a loads (Command.Put key value) r b h = left_by a b (with_pass a h.0) (taken a.clones) h.1 (pass_leaves a a.in_use h.0)
+leaves a loads (Command.Remove key) r b h = left_by a b (with_pass a h.0) (taken a.clones) h.1 (pass_leaves a a.in_use h.0)
+leaves a loads (Command.Get key) r b h = left_by a b (with_pass a h.0) (taken a.clones) h.1 (pass_leaves a a.in_use h.0)
+leaves a loads (Command.Snap slot name) r b h =
     let some : Option (ℕ × Cloned) = Some (a.in_use, h.2) in
     left_by a b (with_slot (with_pass a h.1) slot some) (slice_set (taken a.clones) slot true) h.3 (record { marks_are = map-set is_some a.clones slot some; places = length-set a.clones slot some; names = refl })
-leaves a loads (command.Forget slot name) r b h = left_by a b (with_slot a slot None) (slice_set (taken a.clones) slot false) h.1 (record { marks_are = map-set is_some a.clones slot None; places = length-set a.clones slot None; names = refl })
-leaves a loads (command.See slot key) r b h = left_by a b a (taken a.clones) h.0 (all_stay a)
-leaves a loads (command.First slot) r b h = left_by a b a (taken a.clones) h.0 (all_stay a)
-leaves a loads (command.Last slot) r b h = left_by a b a (taken a.clones) h.0 (all_stay a)
-leaves a loads (command.Floor slot key) r b h = left_by a b a (taken a.clones) h.0 (all_stay a)
-leaves a loads (command.Lower slot key) r b h = left_by a b a (taken a.clones) h.0 (all_stay a)
-leaves a loads (command.Ceiling slot key) r b h = left_by a b a (taken a.clones) h.0 (all_stay a)
-leaves a loads (command.Higher slot key) r b h = left_by a b a (taken a.clones) h.0 (all_stay a)
-leaves a loads (command.Count slot lo hi) r b h = left_by a b a (taken a.clones) h.0 (all_stay a)
-leaves a loads (command.Depth slot) r b h = measured_leaves a b (clone_at a slot) r h
-leaves a loads (command.Export slot lo hi file) r b h = left_by a b a (taken a.clones) h.0 (all_stay a)
-leaves a loads (command.Load file) r b h = left_by a b (with_pass a h.0) (taken a.clones) h.1 (pass_leaves a a.in_use h.0)
+leaves a loads (Command.Forget slot name) r b h = left_by a b (with_slot a slot None) (slice_set (taken a.clones) slot false) h.1 (record { marks_are = map-set is_some a.clones slot None; places = length-set a.clones slot None; names = refl })
+leaves a loads (Command.See slot key) r b h = left_by a b a (taken a.clones) h.0 (all_stay a)
+leaves a loads (Command.First slot) r b h = left_by a b a (taken a.clones) h.0 (all_stay a)
+leaves a loads (Command.Last slot) r b h = left_by a b a (taken a.clones) h.0 (all_stay a)
+leaves a loads (Command.Floor slot key) r b h = left_by a b a (taken a.clones) h.0 (all_stay a)
+leaves a loads (Command.Lower slot key) r b h = left_by a b a (taken a.clones) h.0 (all_stay a)
+leaves a loads (Command.Ceiling slot key) r b h = left_by a b a (taken a.clones) h.0 (all_stay a)
+leaves a loads (Command.Higher slot key) r b h = left_by a b a (taken a.clones) h.0 (all_stay a)
+leaves a loads (Command.Count slot lo hi) r b h = left_by a b a (taken a.clones) h.0 (all_stay a)
+leaves a loads (Command.Depth slot) r b h = measured_leaves a b (clone_at a slot) r h
+leaves a loads (Command.Export slot lo hi file) r b h = left_by a b a (taken a.clones) h.0 (all_stay a)
+leaves a loads (Command.Load file) r b h = left_by a b (with_pass a h.0) (taken a.clones) h.1 (pass_leaves a a.in_use h.0)
 
 -- commands that fit the slots, and that are served, can all be run
 pub can_run_all : (s : State) (loads : Loads) (cs : List Command) → length s.clones ≡ slots → AllFitSlots (taken s.clones) cs → AllServed s.tables.names loads cs → CanRunAll s loads cs

@@ -1,34 +1,24 @@
 -- What the calls of a table do to what counts of a pass.
-use Rattle.std.specs.Prelude.{◌⊎◌, ◌||◌}
-use Rattle.std.proofs.Common.{◌≡◌, ◌≤◌, ◌<◌, ◌+◌, ℕ, Bool, true, false, List, [], ◌∷◌, ◌++◌, length, Option, inl, inr, refl, ap, sym, ◌∙◌, subst, arith, append_assoc, length-append}
+use Rattle.std.proofs.Common.{◌≡◌, ◌≤◌, ◌<◌, ◌+◌, ℕ, Bool, true, false, List, [], ◌∷◌, ◌++◌, length, Option, inl, inr, refl, ap, sym, ◌∙◌, subst, arith, append_assoc, length-append, ◌⊎◌, ◌||◌}
 use Rattle.snap_fits.specs.Fits.{IsNewKey, made_by}
 use Rattle.snap_fits.specs.Steps as steps
 use Rattle.snap_fits.proofs.Prefixes.{begins_is, begins_length}
-use Rattle.snap_model.specs.History.{Begins, calls_of, told, call_key}
-use Rattle.snap_model.specs.SortedMap.{Pairs}
-use Rattle.snap_model.specs.declared.call.Call.{Call}
-use Rattle.snap_model.specs.declared.call.Call.TheVariants.{Put, Remove}
-use Rattle.snap_model.specs.declared.call.Entry.{Entry}
-use Rattle.snap_search.specs.Answers.{Reads}
-use Rattle.snap_search.specs.Walk.{SeesMore}
-use Rattle.snap_steps.specs.Clones.{Cloned}
-use Rattle.snap_steps.specs.Copies.{TakesBack}
-use Rattle.snap_steps.specs.Seen.{Known}
-use Rattle.snap_steps.specs.declared.view.View.{View}
-use Rattle.snap_steps.specs.declared.view.WordNote.{WordNote}
-use Rattle.snap_steps.proofs.Histories.{of_mine}
+use Rattle.snap_prelude.specs.{Begins, Call, call_key, calls_of, Cloned, Entry, Known}
+use Rattle.snap_prelude.specs.{Pairs, Put, Remove, SeesMore, TakesBack, View, WordNote}
+use Rattle.snap_model.specs.History.{told}
+use Rattle.snap_search.specs.Prelude.{Reads}
+use Rattle.snap_prelude.proofs.Common.{of_mine}
 use Rattle.snap_table.specs.Calls.{Replies, Refuses}
 use Rattle.snap_table.specs.Clones.{Cuts}
 use Rattle.snap_update.specs.Answers.{PutsAbsent, NeedsRow}
-use Rattle.snap_service.specs.Courses.{track_of}
-use Rattle.snap_service.specs.Serving.{PutAll}
+use Rattle.snap_service.specs.Prelude.{PutAll, track_of}
 use Rattle.snap_service.proofs.Notes.{handed_grows, epochs_grow, in_handed, in_epochs, some_epoch}
 
 -- one entry more
 begins_more : (xs ys : List Entry) (e : Entry) → Begins xs ys → Begins xs (ys ++ e ∷ [])
 begins_more xs ys e b = record { rest = b.rest ++ e ∷ []; is = sym (append_assoc xs b.rest (e ∷ [])) ∙ ap (λ (l : List Entry). l ++ e ∷ []) b.is }
 
-pub wrote : (old new : Known) (call : Call) (was : Option ℕ) → Replies old new call was → steps.Writes (track_of old) (track_of new) call was
+pub wrote : (old new : Known) (call : Call) (was : Option ℕ) → Replies old new call was → steps.TrackWrites (track_of old) (track_of new) call was
 wrote old new call was h =
     let e : Entry = made_by old.view.who call was in
     let who : new.view.who ≡ old.view.who = ap (λ (k : Known). k.view.who) h.is in
@@ -41,8 +31,8 @@ wrote old new call was h =
         own = λ _. ap (λ (i : ℕ). calls_of new.view.seen i) who ∙ ap (λ (l : List Entry). calls_of l old.view.who) h.seen ∙ of_mine h.log e old.view.who refl
             ∙ ap (λ (l : List Entry). l ++ e ∷ []) h.enters.own ∙ sym h.mine;
         seen = subst (λ (l : List Entry). Begins old.view.seen l) (sym h.seen) (begins_more old.view.seen h.log e h.enters.goes_on);
-        handed = omega (arith, h.noted.handed, handed_grows old.view.handed h.more);
-        epochs = omega (arith, h.noted.epochs, epochs_grow old.view.epochs h.more);
+        handed = omega (arith, h.noted.handed, handed_grows old.view.noted.handed h.more);
+        epochs = omega (arith, h.noted.epochs, epochs_grow old.view.noted.epochs h.more);
         cuts = begins_is old.view.cuts new.view.cuts (sym cuts);
         worn = h.noted.worn;
       };
@@ -70,7 +60,7 @@ cause : (call : Call) (seen : List Entry) (epoch handed : ℕ) (drawn : List ℕ
 cause call seen epoch handed drawn more epochs low (inl a) = inl (new_key call seen a)
 cause call seen epoch handed drawn more epochs low (inr n) = inr (let s = some_epoch (call_key call) epoch (length drawn) more n in omega arith)
 
-pub refused : (rows : ℕ) (old new : Known) (call : Call) → Refuses rows old new call → steps.Refuses rows (track_of old) (track_of new) call
+pub refused : (rows : ℕ) (old new : Known) (call : Call) → Refuses rows old new call → steps.TrackRefuses rows (track_of old) (track_of new) call
 refused rows old new call h =
     let who : new.view.who ≡ old.view.who = ap (λ (k : Known). k.view.who) h.is in
     let cuts : new.view.cuts ≡ old.view.cuts = ap (λ (k : Known). k.view.cuts) h.is in
@@ -79,25 +69,25 @@ refused rows old new call h =
         who = who;
         own = λ o. ap (λ (i : ℕ). calls_of new.view.seen i) who ∙ sees_own old.view new.view h.sees o ∙ sym h.mine;
         seen = sees old.view new.view h.sees;
-        handed = omega (arith, h.noted.handed, handed_grows old.view.handed h.more);
-        epochs = omega (arith, h.noted.epochs, epochs_grow old.view.epochs h.more);
+        handed = omega (arith, h.noted.handed, handed_grows old.view.noted.handed h.more);
+        epochs = omega (arith, h.noted.epochs, epochs_grow old.view.noted.epochs h.more);
         cuts = begins_is old.view.cuts new.view.cuts (sym cuts);
         worn = h.noted.worn;
       };
       mine = h.mine;
       cuts = cuts;
-      full = omega (arith, h.noted.handed, in_handed old.view.handed rows h.more h.full);
-      cause = cause call new.view.seen h.epoch 0 h.links.rows h.more new.view.epochs (omega (arith, h.noted.epochs, in_epochs old.view.epochs h.epoch h.more h.epoch_noted)) h.cause;
+      full = omega (arith, h.noted.handed, in_handed old.view.noted.handed rows h.more h.full);
+      cause = cause call new.view.seen h.epoch 0 h.links.rows h.more new.view.noted.epochs (omega (arith, h.noted.epochs, in_epochs old.view.noted.epochs h.epoch h.more h.epoch_noted)) h.cause;
     }
 
-pub read : (old new : Known) (key : ℕ) (answer : Option ℕ) → Reads old new key answer → steps.Reads (track_of old) (track_of new) key answer
+pub read : (old new : Known) (key : ℕ) (answer : Option ℕ) → Reads old new key answer → steps.TrackReads (track_of old) (track_of new) key answer
 unfolding told
 read old new key answer h =
     let who : new.view.who ≡ old.view.who = ap (λ (k : Known). k.view.who) h.is in
     let mine : new.view.mine ≡ old.view.mine = ap (λ (k : Known). k.view.mine) h.is in
     let cuts : new.view.cuts ≡ old.view.cuts = ap (λ (k : Known). k.view.cuts) h.is in
-    let handed : new.view.handed ≡ old.view.handed = ap (λ (k : Known). k.view.handed) h.is in
-    let epochs : new.view.epochs ≡ old.view.epochs = ap (λ (k : Known). k.view.epochs) h.is in
+    let handed : new.view.noted.handed ≡ old.view.noted.handed = ap (λ (k : Known). k.view.noted.handed) h.is in
+    let epochs : new.view.noted.epochs ≡ old.view.noted.epochs = ap (λ (k : Known). k.view.noted.epochs) h.is in
     record {
       on = record {
         who = who;
@@ -106,31 +96,31 @@ read old new key answer h =
         handed = omega arith;
         epochs = omega arith;
         cuts = begins_is old.view.cuts new.view.cuts (sym cuts);
-        worn = λ e. ap (λ (k : Known). k.view.worn) h.is ∙ e;
+        worn = λ e. ap (λ (k : Known). k.view.noted.worn) h.is ∙ e;
       };
       mine = mine;
       cuts = cuts;
       told = h.tells;
     }
 
-pub cut : (old new : Known) (clone : Cloned) → Cuts old new clone → steps.Cuts (track_of old) (track_of new) clone.base clone.next
+pub cut : (old new : Known) (clone : Cloned) → Cuts old new clone → steps.TrackCuts (track_of old) (track_of new) clone.base clone.next
 cut old new clone c =
     let h = c.cut in
     let who : new.view.who ≡ old.view.who = ap (λ (k : Known). k.view.who) h.is in
     let mine : new.view.mine ≡ old.view.mine = ap (λ (k : Known). k.view.mine) h.is in
-    let epochs : new.view.epochs ≡ old.view.epochs = ap (λ (k : Known). k.view.epochs) h.is in
+    let epochs : new.view.noted.epochs ≡ old.view.noted.epochs = ap (λ (k : Known). k.view.noted.epochs) h.is in
     record {
       on = record {
         who = who;
         own = λ _. ap (λ (i : ℕ). calls_of new.view.seen i) who ∙ ap (λ (l : List Entry). calls_of l old.view.who) h.seen ∙ h.extends.own ∙ sym mine;
         seen = subst (λ (l : List Entry). Begins old.view.seen l) (sym h.seen) h.extends.goes_on;
-        handed = omega (arith, h.noted.handed, handed_grows old.view.handed h.more);
+        handed = omega (arith, h.noted.handed, handed_grows old.view.noted.handed h.more);
         epochs = omega arith;
         cuts = record { rest = length clone.base ∷ []; is = sym h.cuts };
-        worn = λ e. ap (λ (k : Known). k.view.worn) h.is ∙ e;
+        worn = λ e. ap (λ (k : Known). k.view.noted.worn) h.is ∙ e;
       };
       whole = h.seen;
-      handed = omega (arith, h.noted.handed, in_handed old.view.handed clone.next h.more h.loaded);
+      handed = omega (arith, h.noted.handed, in_handed old.view.noted.handed clone.next h.more h.loaded);
       mine = mine;
       cuts = h.cuts;
     }
@@ -148,10 +138,10 @@ learnt old new clone h =
         who = who;
         own = λ _. ap (λ (i : ℕ). calls_of new.view.seen i) who ∙ ap (λ (l : List Entry). calls_of l old.view.who) seen ∙ h.extends.own ∙ sym mine;
         seen = subst (λ (l : List Entry). Begins old.view.seen l) (sym seen) h.extends.goes_on;
-        handed = omega (arith, ap (λ (k : Known). k.view.handed) is);
-        epochs = omega (arith, ap (λ (k : Known). k.view.epochs) is);
+        handed = omega (arith, ap (λ (k : Known). k.view.noted.handed) is);
+        epochs = omega (arith, ap (λ (k : Known). k.view.noted.epochs) is);
         cuts = begins_is old.view.cuts new.view.cuts (sym cuts);
-        worn = λ e. ap (λ (k : Known). k.view.worn) is ∙ ap (λ (b : Bool). b || clone.worn) e;
+        worn = λ e. ap (λ (k : Known). k.view.noted.worn) is ∙ ap (λ (b : Bool). b || clone.worn) e;
       };
       mine = mine;
       cuts = cuts;
@@ -161,8 +151,8 @@ pub or_true : (b : Bool) → (b || true) ≡ true
 or_true true = refl
 or_true false = refl
 
-pub worn_learnt : (old new : Known) (clone : Cloned) → TakesBack old new clone → clone.worn ≡ true → new.view.worn ≡ true
-worn_learnt old new clone h e = ap (λ (k : Known). k.view.worn) h.pass ∙ ap (λ (b : Bool). old.view.worn || b) e ∙ or_true old.view.worn
+pub worn_learnt : (old new : Known) (clone : Cloned) → TakesBack old new clone → clone.worn ≡ true → new.view.noted.worn ≡ true
+worn_learnt old new clone h e = ap (λ (k : Known). k.view.noted.worn) h.pass ∙ ap (λ (b : Bool). old.view.noted.worn || b) e ∙ or_true old.view.noted.worn
 
 pub put_all : (old : Known) (xs : Pairs) (new : Known) → PutAll old xs new → steps.PutsAll (track_of old) xs (track_of new)
 put_all old [] new h = ap track_of h

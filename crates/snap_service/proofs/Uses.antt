@@ -1,18 +1,12 @@
 -- How much one command adds to the uses of a session's passes.
-use Rattle.std.specs.Prelude.{slice_set}
-use Rattle.std.proofs.Common.{zero, suc, ◌≡◌, ◌≤◌, ◌<◌, ◌+◌, ◌^◌, ℕ, List, [], ◌∷◌, length, get_or, take, Option, Some, None, inl, inr, ap, sym, ◌∙◌, subst, arith}
+use Rattle.std.proofs.Common.{zero, suc, ◌≡◌, ◌≤◌, ◌<◌, ◌+◌, ◌^◌, ℕ, List, [], ◌∷◌, length, get_or, take, Option, Some, None, inl, inr, ap, sym, ◌∙◌, subst, arith, slice_set}
 use Rattle.std.proofs.lemmas.List.{length-take}
-use Rattle.std.proofs.lemmas.Option.{slice_get_within}
-use Rattle.snap_model.specs.SortedMap.{Pairs}
-use Rattle.snap_model.specs.declared.call.Call.{Call}
-use Rattle.snap_model.specs.declared.command.Command.{Command}
-use Rattle.snap_model.specs.declared.command.Command.TheVariants as command
-use Rattle.snap_model.specs.declared.command.Reply.{Reply}
-use Rattle.snap_steps.specs.Clones.{Cloned}
-use Rattle.snap_steps.specs.Seen.{Known}
+use Rattle.snap_prelude.proofs.Common.{slice_get_within}
+use Rattle.snap_prelude.specs.{Call, Cloned, Command, Known, Pairs, Reply}
 use Rattle.snap_text.specs.LoadFiles.{Loads, pairs_of}
-use Rattle.snap_service.specs.Serving.{Loaded, Measured, PutAll, Serves, Wrote}
-use Rattle.snap_service.specs.States.{FitsSlot, IsWellFormed, State, clone_at, most_uses, nobody, pass_at, pass_in_use}
+use Rattle.snap_service.specs.Prelude.{clone_at, FitsSlot, IsWellFormed, Loaded}
+use Rattle.snap_service.specs.Prelude.{Measured, most_uses, nobody, pass_at}
+use Rattle.snap_service.specs.Prelude.{pass_in_use, PutAll, Serves, State, Wrote}
 
 uses_at : (ps : List Known) (i : ℕ) → i < length ps → (get_or ps i nobody).view.uses ≤ most_uses ps
 uses_at [] i l = absurd (omega (arith, l))
@@ -51,20 +45,20 @@ same_uses : (a b : State) → b.passes ≡ a.passes → most_uses b.passes ≤ m
 same_uses a b e = omega (arith, ap most_uses e)
 
 pub uses_after : (loads : Loads) (a b : State) (c : Command) (r : Reply) → IsWellFormed a → ((file : List ℕ) → length (pairs_of loads file) ≤ 2 ^ 22) → Serves loads a c r b → most_uses b.passes ≤ most_uses a.passes + 2 ^ 22
-uses_after loads a b (command.Table name) r ok few h = same_uses a b (ap (λ (s : State). s.passes) h.1)
-uses_after loads a b (command.Put key value) r ok few h = omega (arith, set_uses a b ok h.0 1 (ap (λ (s : State). s.passes) h.1) (omega (arith, wrote_uses a.tables.rows _ (pass_in_use a) r h.0 _ h.2)))
-uses_after loads a b (command.Remove key) r ok few h = omega (arith, set_uses a b ok h.0 1 (ap (λ (s : State). s.passes) h.1) (omega (arith, wrote_uses a.tables.rows _ (pass_in_use a) r h.0 _ h.2)))
-uses_after loads a b (command.Get key) r ok few h = omega (arith, set_uses a b ok h.0 0 (ap (λ (s : State). s.passes) h.1) (let x = h.4 in omega (arith, ap (λ (k : Known). k.view.uses) x.is)))
-uses_after loads a b (command.Load file) r ok few h = omega (arith, few file, set_uses a b ok h.0 (length (pairs_of loads file)) (ap (λ (s : State). s.passes) h.1) (loaded_uses a.tables.rows (pairs_of loads file) (pass_in_use a) r h.0 h.2))
-uses_after loads a b (command.Snap slot name) r ok few h = omega (arith, set_uses a b ok h.1 1 (ap (λ (s : State). s.passes) h.3) (let x = h.4 in omega (arith, ap (λ (k : Known). k.view.uses) x.cut.is)))
-uses_after loads a b (command.Forget slot name) r ok few h = same_uses a b (ap (λ (s : State). s.passes) h.1)
-uses_after loads a b (command.See slot key) r ok few h = same_uses a b (ap (λ (s : State). s.passes) h.0)
-uses_after loads a b (command.First slot) r ok few h = same_uses a b (ap (λ (s : State). s.passes) h.0)
-uses_after loads a b (command.Last slot) r ok few h = same_uses a b (ap (λ (s : State). s.passes) h.0)
-uses_after loads a b (command.Floor slot key) r ok few h = same_uses a b (ap (λ (s : State). s.passes) h.0)
-uses_after loads a b (command.Lower slot key) r ok few h = same_uses a b (ap (λ (s : State). s.passes) h.0)
-uses_after loads a b (command.Ceiling slot key) r ok few h = same_uses a b (ap (λ (s : State). s.passes) h.0)
-uses_after loads a b (command.Higher slot key) r ok few h = same_uses a b (ap (λ (s : State). s.passes) h.0)
-uses_after loads a b (command.Count slot lo hi) r ok few h = same_uses a b (ap (λ (s : State). s.passes) h.0)
-uses_after loads a b (command.Export slot lo hi file) r ok few h = same_uses a b (ap (λ (s : State). s.passes) h.0)
-uses_after loads a b (command.Depth slot) r ok few h = omega (arith, measured_uses a b (clone_at a slot) r ok.seated.a_pass_each (ok.clones slot) h)
+uses_after loads a b (Command.Table name) r ok few h = same_uses a b (ap (λ (s : State). s.passes) h.1)
+uses_after loads a b (Command.Put key value) r ok few h = omega (arith, set_uses a b ok h.0 1 (ap (λ (s : State). s.passes) h.1) (omega (arith, wrote_uses a.tables.rows _ (pass_in_use a) r h.0 _ h.2)))
+uses_after loads a b (Command.Remove key) r ok few h = omega (arith, set_uses a b ok h.0 1 (ap (λ (s : State). s.passes) h.1) (omega (arith, wrote_uses a.tables.rows _ (pass_in_use a) r h.0 _ h.2)))
+uses_after loads a b (Command.Get key) r ok few h = omega (arith, set_uses a b ok h.0 0 (ap (λ (s : State). s.passes) h.1) (let x = h.4 in omega (arith, ap (λ (k : Known). k.view.uses) x.is)))
+uses_after loads a b (Command.Load file) r ok few h = omega (arith, few file, set_uses a b ok h.0 (length (pairs_of loads file)) (ap (λ (s : State). s.passes) h.1) (loaded_uses a.tables.rows (pairs_of loads file) (pass_in_use a) r h.0 h.2))
+uses_after loads a b (Command.Snap slot name) r ok few h = omega (arith, set_uses a b ok h.1 1 (ap (λ (s : State). s.passes) h.3) (let x = h.4 in omega (arith, ap (λ (k : Known). k.view.uses) x.cut.is)))
+uses_after loads a b (Command.Forget slot name) r ok few h = same_uses a b (ap (λ (s : State). s.passes) h.1)
+uses_after loads a b (Command.See slot key) r ok few h = same_uses a b (ap (λ (s : State). s.passes) h.0)
+uses_after loads a b (Command.First slot) r ok few h = same_uses a b (ap (λ (s : State). s.passes) h.0)
+uses_after loads a b (Command.Last slot) r ok few h = same_uses a b (ap (λ (s : State). s.passes) h.0)
+uses_after loads a b (Command.Floor slot key) r ok few h = same_uses a b (ap (λ (s : State). s.passes) h.0)
+uses_after loads a b (Command.Lower slot key) r ok few h = same_uses a b (ap (λ (s : State). s.passes) h.0)
+uses_after loads a b (Command.Ceiling slot key) r ok few h = same_uses a b (ap (λ (s : State). s.passes) h.0)
+uses_after loads a b (Command.Higher slot key) r ok few h = same_uses a b (ap (λ (s : State). s.passes) h.0)
+uses_after loads a b (Command.Count slot lo hi) r ok few h = same_uses a b (ap (λ (s : State). s.passes) h.0)
+uses_after loads a b (Command.Export slot lo hi file) r ok few h = same_uses a b (ap (λ (s : State). s.passes) h.0)
+uses_after loads a b (Command.Depth slot) r ok few h = omega (arith, measured_uses a b (clone_at a slot) r ok.seated.a_pass_each (ok.clones slot) h)

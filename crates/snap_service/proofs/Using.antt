@@ -1,24 +1,17 @@
 -- A call on the table in use.
-use Rattle.std.specs.Prelude.{◌⊎◌, slice_get, slice_set, IfOk, OnErr, MatchResult, is_err}
-use Rattle.std.proofs.lemmas.Option.{slice_get-get_or}
-use Rattle.std.proofs.Common.{zero, suc, ◌≡◌, ◌≤◌, ◌<◌, ℕ, List, [], ◌∷◌, ◌++◌, length, get_or, take, true, false, Result, Ok, Err, Option, Some, None, inl, inr, refl, ap, sym, ◌∙◌, subst, arith}
-use native.Mathlib.Decide.{ℕ_discrete}
-use mathlib.Core.Logic.{dite}
-use Rattle.std.proofs.lemmas.List.{set-get_or, get_or_read, get_or-set_same, get_or-set_other, length-set}
+use Rattle.snap_prelude.proofs.Common.{dite, get_or-set_other, get_or-set_same, get_or_read}
+use Rattle.snap_prelude.proofs.Common.{length-set, slice_get-get_or, ℕ_discrete}
+use Rattle.std.proofs.Common.{zero, suc, ◌≡◌, ◌≤◌, ◌<◌, ℕ, List, [], ◌∷◌, ◌++◌, length, get_or, take, true, false, Result, Ok, Err, Option, Some, None, inl, inr, refl, ap, sym, ◌∙◌, subst, arith, ◌⊎◌, slice_get, slice_set, IfOk, OnErr, MatchResult, is_err}
+use Rattle.std.proofs.lemmas.List.{set-get_or}
 use Rattle.snap_fits.specs.Fits.{value_reply}
-use Rattle.snap_model.specs.SortedMap.{Pairs}
-use Rattle.snap_model.specs.declared.call.Call.{Call}
-use Rattle.snap_model.specs.declared.call.Call.TheVariants.{Put}
-use Rattle.snap_model.specs.declared.command.Reply.{Reply}
-use Rattle.snap_model.specs.declared.command.Reply.TheVariants as reply
-use Rattle.snap_search.specs.Answers.{Reads}
-use Rattle.snap_steps.specs.Clones.{Cloned}
-use Rattle.snap_steps.specs.Copies.{TakesBack}
-use Rattle.snap_steps.specs.Seen.{Known, Laid}
+use Rattle.snap_prelude.specs.{Call, Cloned, Known, Laid, Pairs, Put, Reply, TakesBack}
+use Rattle.snap_search.specs.Prelude.{Reads}
 use Rattle.snap_table.specs.Calls.{Replies, Refuses}
 use Rattle.snap_table.specs.Clones.{Cuts}
-use Rattle.snap_service.specs.Serving.{Loaded, Measured, Measures, PutAll, Wrote}
-use Rattle.snap_service.specs.States.{AreSeated, FitsSlot, clone_at, IsCloneIn, IsSeated, IsWellFormed, State, Tables, most_uses, nobody, nowhere, pass_at, pass_in_use, slots, table_at, with_pass, with_pass_at, with_slot}
+use Rattle.snap_service.specs.Prelude.{AreSeated, clone_at, FitsSlot, IsCloneIn, IsSeated}
+use Rattle.snap_service.specs.Prelude.{IsWellFormed, Loaded, Measured, Measures, most_uses, nobody}
+use Rattle.snap_service.specs.Prelude.{nowhere, pass_at, pass_in_use, PutAll, slots, State}
+use Rattle.snap_service.specs.Prelude.{table_at, Tables, with_pass, with_pass_at, with_slot, Wrote}
 
 pub uses_le : (ps : List Known) (i : ℕ) (p : Known) → i < length ps → p ≡ get_or ps i p → p.view.uses ≤ most_uses ps
 uses_le [] i p l e = absurd (omega (arith, l))
@@ -37,7 +30,7 @@ module _ (s s0 : State) (same : s0 ≡ s) (ok : IsWellFormed s0) (p0 : Known) (i
         ∙ ok.service.rows_are s0.in_use l ∙ ap (λ (y : State). y.tables.rows) same
 
     pub written_done : (p1 : Known) (call : Call) (reply_of : Option ℕ → Reply) (r : Reply)
-        → (((was : Option ℕ) × (r ≡ reply_of was) × Replies p0 p1 call was) ⊎ ((r ≡ reply.Full) × Refuses x.rows p0 p1 call))
+        → (((was : Option ℕ) × (r ≡ reply_of was) × Replies p0 p1 call was) ⊎ ((r ≡ Reply.Full) × Refuses x.rows p0 p1 call))
         → (pass : Known) × (with_pass s0 p1 ≡ with_pass s pass) × Wrote s.tables.rows call reply_of (pass_in_use s) r pass
     written_done p1 call reply_of r (inl h) = (p1, ap (λ (y : State). with_pass y p1) same, inl (h.0, h.1, subst (λ (k : Known). Replies k p1 call h.0) pass_is h.2))
     written_done p1 call reply_of r (inr h) = (p1, ap (λ (y : State). with_pass y p1) same, inr (h.0, subst (λ (k : Known). Refuses s.tables.rows k p1 call) pass_is (subst (λ (n : ℕ). Refuses n p0 p1 call) rows_are h.1)))

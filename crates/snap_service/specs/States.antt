@@ -1,14 +1,12 @@
 -- What contracts see of the tables of a service, of a kit and of a session.
 use Rattle.std.specs.Prelude.{◌++◌, ◌≡◌, ◌<◌, ℕ, List, [], ◌∷◌, length, max, Option, None, Some, position, bytes_eq, map, replicate, slice_index_or, slice_set, unwrap_or, IsSome, IsNone}
 use Rattle.atomic_table.specs.Seated.{TableId}
-use Rattle.snap_steps.specs.Clones.{Cloned, IsCloneOf, image}
-use Rattle.snap_steps.specs.Copies.{IsCloneAt}
-use Rattle.snap_steps.specs.Roles.{gone, newcomer}
-use Rattle.snap_steps.specs.Seen.{Known, Laid, IsOf}
-use Rattle.snap_steps.specs.declared.view.Role.TheVariants.{Passing}
+use Rattle.snap_prelude.specs.{Cloned, gone, image, IsCloneAt, IsCloneOf}
+use Rattle.snap_prelude.specs.{IsOf, Known, Laid, newcomer, Passing}
 use Rattle.snap_table.specs.Calls.{IsIdle}
 
--- the tables of a service: their names, each table in the same order, their rows, and how many kits there are
+-- the tables of a service: their names, each table in the same order, their rows, and how many kits
+-- there are
 pub record Tables : Type 0 where
   pub names : List (List ℕ)
   pub laid : List Laid
@@ -16,7 +14,8 @@ pub record Tables : Type 0 where
   pub kits : ℕ
 
 abbrev pub no_table : TableId
-no_table = record { words = 0; slots = 0; views_name = 0; atom = 0; block = 0; offset = 0; slot_names = [] }
+no_table = record
+    { words = 0; slots = 0; views_name = 0; atom = 0; block = 0; offset = 0; slot_names = [] }
 
 abbrev pub nowhere : Laid
 nowhere = record { table = no_table; rows = 0; passes = 0 }
@@ -59,7 +58,8 @@ new_kit laid who = map (new_pass who) laid
 abbrev pub slots : ℕ
 slots = 64
 
--- a session: the tables, its passes, the table in use, and the clone in each slot with the place of its table
+-- a session: the tables, its passes, the table in use, and the clone in each slot with the place of
+-- its table
 pub record State : Type 0 where
   pub tables : Tables
   pub passes : List Known
@@ -111,7 +111,8 @@ IsTaken s slot = IsSome (clone_at s slot)
 abbrev pub IsFree : State → ℕ → Type 0
 IsFree s slot = (slot < slots) × IsNone (clone_at s slot)
 
--- the session with another pass on a table, or on the one in use, another table in use, or another clone in a slot
+-- the session with another pass on a table, or on the one in use, another table in use, or another
+-- clone in a slot
 abbrev pub with_pass_at : State → ℕ → Known → State
 with_pass_at s t p = record s { passes = slice_set s.passes t p }
 
@@ -142,6 +143,8 @@ pub record AreNewKits (laid : List Laid) (kits : List (List Known)) (count : ℕ
   pub each : (i : ℕ) (d : List Known) → i < count → slice_index_or kits i d ≡ new_kit laid i
 
 -- each kit got the pass of its number
-pub record AreDealt (old : List (List Known)) (passes : List Known) (new : List (List Known)) : Type 0 where
+pub record AreDealt (old : List (List Known)) (passes : List Known)
+    (new : List (List Known)) : Type 0 where
   pub many : length new ≡ length old
-  pub each : (i : ℕ) (d : List Known) → i < length old → slice_index_or new i d ≡ slice_index_or old i d ++ pass_at passes i ∷ []
+  pub each : (i : ℕ) (d : List Known) → i < length old
+      → slice_index_or new i d ≡ slice_index_or old i d ++ pass_at passes i ∷ []

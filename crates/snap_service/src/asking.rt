@@ -1,9 +1,8 @@
 //! Questions to a clone, each with its reply.
 ghost use Rattle.std.specs.Prelude.{◌≡◌, ◌-◌, ◌^◌, min};
 ghost use Rattle.snap_fits.specs.Fits.{pair_reply, value_reply};
-ghost use Rattle.snap_model.specs.History.{after};
-ghost use Rattle.snap_model.specs.SortedMap.{at, ceiling, count, first_pair, floor, higher, last_pair, lower};
-ghost use Rattle.snap_steps.specs.Clones.{IsCloneOf, image};
+ghost use Rattle.snap_prelude.specs.{after, at, ceiling, count, first_pair, floor};
+ghost use Rattle.snap_prelude.specs.{higher, image, IsCloneOf, last_pair, lower};
 ghost use Rattle.snap_service.specs.Serving.{Measures};
 
 use crate::replies::{pair_reply, value_reply};

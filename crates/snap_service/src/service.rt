@@ -1,6 +1,6 @@
 //! The tables of a run by their names, the kits of passes for its sessions, and what is left when they close.
 ghost use Rattle.std.specs.Prelude.{◌≡◌, ◌≢◌, ◌-◌, ◌<◌, ◌≤◌, ◌^◌, ◌++◌, ℕ, All, AllPairs, IfOk, List, OnOk, [], ◌∷◌, length, replicate, slice_index_or, vec_capacity};
-ghost use Rattle.snap_steps.specs.Seen.{Known};
+ghost use Rattle.snap_prelude.specs.{Known};
 ghost use Rattle.snap_service.specs.Kits.{Admits, AdmitsAll, AreClosed, FitsAll, IsCallers, IsFinal, IsUncut, JoinsAll, OnlyWorkers};
 ghost use Rattle.snap_service.specs.Courses.{fronts_of};
 ghost use Rattle.snap_service.specs.States.{AreDealt, AreNewKits, AreSeated, IsOpened, IsSeated, nowhere, pass_at, place_of};
@@ -31,9 +31,11 @@ impl Model for Service {
 
     ghost Value = { Tables };
 
-    ghost view = { λ s. record { names = s.names.items; laid = s.tables.items; rows = s.rows; kits = s.kits } };
+    ghost view = { λ s.
+        record { names = s.names.items; laid = s.tables.items; rows = s.rows; kits = s.kits } };
 
-    ghost invariant = { λ s. AreTables (record { names = s.names.items; laid = s.tables.items; rows = s.rows; kits = s.kits }) };
+    ghost invariant = { λ s. AreTables
+        (record { names = s.names.items; laid = s.tables.items; rows = s.rows; kits = s.kits }) };
 }
 
 /// One pass of each table. Contracts see the passes in the order of the tables.
@@ -46,13 +48,14 @@ pub struct Kit {
 
 impl Model for Kit {
     ghost use Rattle.std.specs.Prelude.{◌≡◌, ◌≤◌, List, [], length, vec_capacity};
-    ghost use Rattle.snap_steps.specs.Seen.{Known};
+    ghost use Rattle.snap_prelude.specs.{Known};
 
     ghost Value = { List Known };
 
     ghost view = { λ k. k.passes.items };
 
-    ghost invariant = { λ k. (k.space.items ≡ []) × (length k.passes.items ≤ vec_capacity k.space) };
+    ghost invariant = { λ k. (k.space.items ≡ [])
+        × (length k.passes.items ≤ vec_capacity k.space) };
 }
 
 /// What is left of a session that ended: contracts see its passes as they were.
@@ -63,7 +66,7 @@ pub struct KitReceipt {
 
 impl Model for KitReceipt {
     ghost use Rattle.std.specs.Prelude.{List};
-    ghost use Rattle.snap_steps.specs.Seen.{Known};
+    ghost use Rattle.snap_prelude.specs.{Known};
 
     ghost Value = { List Known };
 
@@ -78,7 +81,7 @@ pub struct Fronts {
 
 impl Model for Fronts {
     ghost use Rattle.std.specs.Prelude.{List};
-    ghost use Rattle.snap_steps.specs.Ending.{Ended};
+    ghost use Rattle.snap_prelude.specs.{Ended};
 
     ghost Value = { List Ended };
 
@@ -154,9 +157,11 @@ impl Service {
         ensures joins { JoinsAll kit.old receipt kit.new }
         ensures kit { AreSeated self.now kit.new }
         ensures admits { Admits kit.new receipt }
-        ensures keeps { (other : List Known) → AreSeated self.now other → Admits kit.old other → Admits kit.new other }
+        ensures keeps { (other : List Known) → AreSeated self.now other → Admits kit.old other
+            → Admits kit.new other }
         ensures uncut { IsUncut self.now kit.old → IsUncut self.now kit.new }
-        ensures uses { (t : ℕ) → t < length kit.old → (pass_at kit.new t).view.uses ≡ (pass_at kit.old t).view.uses }
+        ensures uses { (t : ℕ) → t < length kit.old
+            → (pass_at kit.new t).view.uses ≡ (pass_at kit.old t).view.uses }
     {
         let _names = &self.names;
         let KitReceipt { passes } = receipt;
@@ -195,7 +200,8 @@ impl Service {
         requires all { AdmitsAll kit }
         ensures closed { AreClosed kit result }
         ensures fits { IsCallers self kit → FitsAll self kit result }
-        ensures only { IsCallers self kit → (t : ℕ) → OnlyWorkers (self.kits - 1) t (fronts_of result t) }
+        ensures only { IsCallers self kit → (t : ℕ)
+            → OnlyWorkers (self.kits - 1) t (fronts_of result t) }
     {
         let Service {
             names: _,
@@ -264,8 +270,10 @@ fn deal(kits: &mut Vec<Kit>, passes: Vec<Pass>) -> Result<(), OutOfMemory>
 fn admit_all(tables: &[SnapTable], passes: &mut Vec<Pass>, ended: Vec<Pass>)
     requires a_pass_each { length passes.old.items ≡ length tables.now }
     requires all_ended { length ended.items ≡ length tables.now }
-    requires passes { (t : ℕ) → t < length tables.now → IsSeated (slice_index_or tables.now t nowhere) (pass_at passes.old.items t) }
-    requires ended { (t : ℕ) → t < length tables.now → IsSeated (slice_index_or tables.now t nowhere) (pass_at ended.items t) }
+    requires passes { (t : ℕ) → t < length tables.now
+        → IsSeated (slice_index_or tables.now t nowhere) (pass_at passes.old.items t) }
+    requires ended { (t : ℕ) → t < length tables.now
+        → IsSeated (slice_index_or tables.now t nowhere) (pass_at ended.items t) }
     ensures a_pass_each { length passes.new.items ≡ length passes.old.items }
     ensures joins { JoinsAll passes.old.items ended.items passes.new.items }
 {
@@ -281,7 +289,8 @@ fn admit_all(tables: &[SnapTable], passes: &mut Vec<Pass>, ended: Vec<Pass>)
 // Closes each table by its pass. There is space for the fronts.
 fn close_all(tables: Vec<SnapTable>, passes: Vec<Pass>, space: Vec<Front>) -> Vec<Front>
     requires a_pass_each { length passes.items ≡ length tables.items }
-    requires passes { (t : ℕ) → t < length tables.items → IsSeated (slice_index_or tables.items t nowhere) (pass_at passes.items t) }
+    requires passes { (t : ℕ) → t < length tables.items
+        → IsSeated (slice_index_or tables.items t nowhere) (pass_at passes.items t) }
     requires all { AdmitsAll passes.items }
     requires empty { space.items ≡ [] }
     requires space { length tables.items ≤ vec_capacity space }

@@ -31,9 +31,21 @@ impl<'t> Model for Session<'t> {
 
     ghost Value = { State };
 
-    ghost view = { λ s. record { tables = s.service.now; passes = s.passes.items; in_use = s.in_use; clones = s.clones.items } };
+    ghost view = { λ s.
+        record {
+          tables = s.service.now;
+          passes = s.passes.items;
+          in_use = s.in_use;
+          clones = s.clones.items;
+        } };
 
-    ghost invariant = { λ s. IsWellFormed (record { tables = s.service.now; passes = s.passes.items; in_use = s.in_use; clones = s.clones.items }) };
+    ghost invariant = { λ s. IsWellFormed
+        (record {
+          tables = s.service.now;
+          passes = s.passes.items;
+          in_use = s.in_use;
+          clones = s.clones.items;
+        }) };
 }
 
 impl<'t> Session<'t> {
@@ -83,9 +95,12 @@ impl<'t> Session<'t> {
     ) -> Result<Reply, OutOfMemory>
         requires can { CanRun self.old loads.now command.now }
         requires uses { most_uses self.old.passes < 2 ^ 47 }
-        ensures serves { IfOk result (λ reply. Serves loads.now self.old command.now reply self.new) }
-        ensures fits { IfOk result (λ reply. ServesOn loads.now self.old command.now reply self.new) }
-        ensures exported { OnOk result (out.new.items ≡ out.old.items ++ text_of self.old command.now) }
+        ensures serves { IfOk result
+            (λ reply. Serves loads.now self.old command.now reply self.new) }
+        ensures fits { IfOk result
+            (λ reply. ServesOn loads.now self.old command.now reply self.new) }
+        ensures exported { OnOk result
+            (out.new.items ≡ out.old.items ++ text_of self.old command.now) }
         ensures uses { most_uses self.new.passes ≤ most_uses self.old.passes + 2 ^ 22 }
         ensures tables { self.new.tables ≡ self.old.tables }
         ensures wants { OnErr result (MayWantMemory command.now) }

@@ -1,12 +1,8 @@
 //! The commands of a session, one function each: what it asks of the tables and of the session's clones.
 ghost use Rattle.std.specs.Prelude.{◌≡◌, ◌<◌, ◌≤◌, ◌+◌, ◌^◌, ◌++◌, Option, ℕ, All, IfOk, OnOk, OnErr, IsSome, None, Some, [], length};
 ghost use Rattle.snap_fits.specs.Fits.{put_reply, remove_reply, value_reply};
-ghost use Rattle.snap_model.specs.History.{after};
-ghost use Rattle.snap_model.specs.SortedMap.{count, range};
-ghost use Rattle.snap_model.specs.declared.call.Call.TheVariants.{Put, Remove};
-ghost use Rattle.snap_search.specs.Answers.{Reads};
-ghost use Rattle.snap_steps.specs.Clones.{Cloned};
-ghost use Rattle.snap_steps.specs.Seen.{IsOf, Known};
+ghost use Rattle.snap_prelude.specs.{after, Cloned, count, IsOf, Known, Put, range, Remove};
+ghost use Rattle.snap_search.specs.Prelude.{Reads};
 ghost use Rattle.snap_table.specs.Calls.{IsIdle};
 ghost use Rattle.snap_table.specs.Clones.{Cuts};
 ghost use Rattle.snap_text.specs.LoadFiles.{HasFile, pairs_of};
@@ -36,8 +32,10 @@ impl<'t> Session<'t> {
     ) -> Result<Reply, OutOfMemory>
         requires can { CanRun self.old loads.now command.now }
         requires uses { most_uses self.old.passes < 2 ^ 47 }
-        ensures serves { IfOk result (λ reply. Serves loads.now self.old command.now reply self.new) }
-        ensures exported { OnOk result (out.new.items ≡ out.old.items ++ text_of self.old command.now) }
+        ensures serves { IfOk result
+            (λ reply. Serves loads.now self.old command.now reply self.new) }
+        ensures exported { OnOk result
+            (out.new.items ≡ out.old.items ++ text_of self.old command.now) }
         ensures wants { OnErr result (MayWantMemory command.now) }
         ensures state_stays { OnErr result (self.new ≡ self.old) }
         ensures out_stays { OnErr result (out.new.items ≡ out.old.items) }
@@ -130,7 +128,9 @@ impl<'t> Session<'t> {
     fn put<R: Wait>(&mut self, rt: &R, key: Key, value: u64) -> Reply
         requires value { FitsValue value }
         requires uses { most_uses self.old.passes < 2 ^ 48 }
-        ensures { (pass : Known) × (self.new ≡ with_pass self.old pass) × Wrote self.old.tables.rows (Put key value) put_reply (pass_in_use self.old) result pass }
+        ensures { (pass : Known) × (self.new ≡ with_pass self.old pass)
+            × Wrote self.old.tables.rows (Put key value) put_reply
+            (pass_in_use self.old) result pass }
     {
         let service = self.service;
         let table = &service.tables[self.in_use];
@@ -143,7 +143,9 @@ impl<'t> Session<'t> {
 
     fn remove<R: Wait>(&mut self, rt: &R, key: Key) -> Reply
         requires { most_uses self.old.passes < 2 ^ 48 }
-        ensures { (pass : Known) × (self.new ≡ with_pass self.old pass) × Wrote self.old.tables.rows (Remove key) remove_reply (pass_in_use self.old) result pass }
+        ensures { (pass : Known) × (self.new ≡ with_pass self.old pass)
+            × Wrote self.old.tables.rows (Remove key) remove_reply
+            (pass_in_use self.old) result pass }
     {
         let service = self.service;
         let table = &service.tables[self.in_use];
@@ -155,7 +157,8 @@ impl<'t> Session<'t> {
     }
 
     fn get<R: Wait>(&mut self, rt: &R, key: Key) -> Reply
-        ensures { (pass : Known) × (self.new ≡ with_pass self.old pass) × (answer : Option ℕ) × (result ≡ value_reply answer) × Reads (pass_in_use self.old) pass key answer }
+        ensures { (pass : Known) × (self.new ≡ with_pass self.old pass) × (answer : Option ℕ)
+            × (result ≡ value_reply answer) × Reads (pass_in_use self.old) pass key answer }
     {
         let service = self.service;
         let table = &service.tables[self.in_use];
@@ -167,7 +170,9 @@ impl<'t> Session<'t> {
         requires free { IsFree self.old slot }
         requires uses { most_uses self.old.passes < 2 ^ 48 }
         ensures reply { result ≡ Reply.Snapped }
-        ensures cut { (pass : Known) × (clone : Cloned) × (self.new ≡ with_slot (with_pass self.old pass) slot (Some (self.old.in_use, clone))) × Cuts (pass_in_use self.old) pass clone }
+        ensures cut { (pass : Known) × (clone : Cloned)
+            × (self.new ≡ with_slot (with_pass self.old pass) slot (Some (self.old.in_use, clone)))
+            × Cuts (pass_in_use self.old) pass clone }
     {
         let service = self.service;
         let table = &service.tables[self.in_use];
@@ -190,7 +195,9 @@ impl<'t> Session<'t> {
         requires file { HasFile loads.now file.now }
         requires values { All (λ (pair : ℕ × ℕ). FitsValue pair.1) (pairs_of loads.now file.now) }
         requires uses { most_uses self.old.passes < 2 ^ 47 }
-        ensures { (pass : Known) × (self.new ≡ with_pass self.old pass) × Loaded self.old.tables.rows (pairs_of loads.now file.now) (pass_in_use self.old) result pass }
+        ensures { (pass : Known) × (self.new ≡ with_pass self.old pass)
+            × Loaded self.old.tables.rows (pairs_of loads.now file.now)
+            (pass_in_use self.old) result pass }
     {
         let pairs = loads.pairs_of(file);
         let service = self.service;
@@ -208,8 +215,10 @@ impl<'t> Session<'t> {
         out: &mut Vec<u8>,
     ) -> Result<Reply, OutOfMemory>
         requires { IsTaken self.old slot }
-        ensures reply { IfOk result (λ reply. reply ≡ Reply.Exported (count (clone_map self.old slot) lo hi)) }
-        ensures out { OnOk result (out.new.items ≡ out.old.items ++ table_text (range (clone_map self.old slot) lo hi)) }
+        ensures reply { IfOk result
+            (λ reply. reply ≡ Reply.Exported (count (clone_map self.old slot) lo hi)) }
+        ensures out { OnOk result
+            (out.new.items ≡ out.old.items ++ table_text (range (clone_map self.old slot) lo hi)) }
         ensures state { self.new ≡ self.old }
         ensures refused { OnErr result (out.new.items ≡ out.old.items) }
     {

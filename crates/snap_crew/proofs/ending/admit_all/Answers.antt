@@ -1,9 +1,7 @@
-use native.Mathlib.Decide.{ℕ_discrete}
-use mathlib.Core.Logic.{dite}
-use Rattle.std.proofs.Common.{◌≡◌, ℕ, List, length, sym, ap, subst, ◌∙◌, arith}
-use Rattle.std.specs.Prelude.{slice_index_or}
-use Rattle.snap_steps.specs.Seen.{Known}
-use Rattle.snap_service.specs.Kits.{Admits}
+use Rattle.snap_prelude.proofs.Common.{dite, ℕ_discrete}
+use Rattle.std.proofs.Common.{◌≡◌, ℕ, List, length, sym, ap, subst, ◌∙◌, arith, slice_index_or}
+use Rattle.snap_prelude.specs.{Known}
+use Rattle.snap_service.specs.Prelude.{Admits}
 use Rattle.snap_service.proofs.Ending.{fewer_is, last_is, one_less}
 use Rattle.snap_crew.proofs.ending.admit_all.Goals as goal
 

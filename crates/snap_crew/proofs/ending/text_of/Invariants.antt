@@ -1,5 +1,5 @@
 use Rattle.std.proofs.Common.{◌≡◌, ◌++◌}
-use Rattle.snap_model.specs.History.{after}
+use Rattle.snap_prelude.specs.{after}
 use Rattle.snap_view.specs.Walks.{pairs_left}
 use Rattle.snap_crew.proofs.ending.text_of.Given as goal
 

@@ -1,13 +1,10 @@
-use Rattle.std.specs.Prelude.{slice_index_or}
-use Rattle.std.proofs.Common.{ℕ, ◌≡◌, ◌<◌, ◌+◌, List, [], ◌∷◌, ◌++◌, length, sym, ap, subst, ◌∙◌, arith}
-use Rattle.snap_steps.specs.Seen.{Known}
+use Rattle.std.proofs.Common.{◌≡◌, ◌<◌, ◌+◌, List, [], ◌∷◌, ◌++◌, length, sym, ap, subst, ◌∙◌, arith, slice_index_or}
+use Rattle.snap_prelude.specs.{Known}
 use Rattle.snap_text.specs.declared.script.Line.{Line}
-use Rattle.snap_service.specs.States.{AreSeated, new_kit, opened}
+use Rattle.snap_service.specs.Prelude.{AreSeated, new_kit, opened}
 use Rattle.snap_service.proofs.Ending.{fewer_is, last_is, one_less}
-use Rattle.snap_crew.specs.Jobs.{IsJob}
-use Rattle.snap_crew.specs.Works.{commands_of}
-use Rattle.snap_crew.specs.declared.crew.Job.{Job}
-use Rattle.std.proofs.lemmas.List.{length_push}
+use Rattle.snap_crew.specs.Prelude.{commands_of, IsJob, Job}
+use Rattle.snap_prelude.proofs.Common.{length_push}
 use Rattle.snap_crew.proofs.Beginning.{can_work, mirror_next, new_seated, place_is, straight}
 use Rattle.snap_crew.proofs.jobs.open_jobs.Goals as goal
 

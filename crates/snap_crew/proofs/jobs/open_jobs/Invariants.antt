@@ -1,8 +1,5 @@
-use Rattle.std.proofs.Common.{◌≡◌, ◌+◌, length, take}
-use Rattle.std.specs.Prelude.{slice_index_or}
-use Rattle.snap_crew.specs.Jobs.{IsJob}
-use Rattle.snap_crew.specs.Mirrors.{Mirrors}
-use Rattle.snap_crew.specs.Works.{commands_of}
+use Rattle.std.proofs.Common.{◌≡◌, ◌+◌, length, take, slice_index_or}
+use Rattle.snap_crew.specs.Prelude.{commands_of, IsJob, Mirrors}
 use Rattle.snap_crew.proofs.jobs.open_jobs.Given as goal
 
 -- the jobs of the kits from here on are made

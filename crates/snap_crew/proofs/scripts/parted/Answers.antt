@@ -1,8 +1,7 @@
-use Rattle.std.specs.Prelude.{slice_index_or}
-use Rattle.std.proofs.Common.{◌≡◌, ◌+◌, Ok, length, sym, ap, subst, ◌∙◌, refl, arith}
-use Rattle.std.proofs.lemmas.List.{length_push}
+use Rattle.std.proofs.Common.{◌≡◌, ◌+◌, length, sym, ap, subst, ◌∙◌, refl, arith, slice_index_or}
+use Rattle.snap_prelude.proofs.Common.{length_push}
 use Rattle.snap_service.proofs.Ending.{fewer_is, last_is, one_less}
-use Rattle.snap_crew.specs.Jobs.{IsHanded}
+use Rattle.snap_crew.specs.Prelude.{IsHanded}
 use Rattle.snap_crew.proofs.Beginning.{mirror_next, straight}
 use Rattle.snap_crew.proofs.scripts.parted.Goals as goal
 

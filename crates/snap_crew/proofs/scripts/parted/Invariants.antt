@@ -1,7 +1,5 @@
-use Rattle.std.proofs.Common.{◌≡◌, ◌+◌, length, take}
-use Rattle.std.specs.Prelude.{slice_index_or}
-use Rattle.snap_crew.specs.Jobs.{IsHanded}
-use Rattle.snap_crew.specs.Mirrors.{Mirrors}
+use Rattle.std.proofs.Common.{◌≡◌, ◌+◌, length, take, slice_index_or}
+use Rattle.snap_crew.specs.Prelude.{IsHanded, Mirrors}
 use Rattle.snap_crew.proofs.scripts.parted.Given as goal
 
 -- those from here on are parted

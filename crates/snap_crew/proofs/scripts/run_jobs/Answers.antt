@@ -1,6 +1,6 @@
 use Rattle.std.specs.Vec.{vec_len}
-use Rattle.std.proofs.Common.{◌≡◌, ◌<◌, ℕ, length, slice_index_or, arith}
-use Rattle.snap_crew.specs.Works.{commands_of}
+use Rattle.std.proofs.Common.{◌≡◌, ◌<◌, length, slice_index_or, arith}
+use Rattle.snap_crew.specs.Prelude.{commands_of}
 use Rattle.snap_crew.proofs.Beginning.{some_of}
 use Rattle.snap_crew.proofs.Handing.{handed, job_can}
 use Rattle.snap_crew.proofs.scripts.run_jobs.Goals as goal

@@ -1,10 +1,7 @@
 use Rattle.std.proofs.Common.{◌≡◌, ◌<◌, ◌+◌, ◌^◌, ℕ, List, [], length, slice_index_or, refl, sym, ap, ◌∙◌, subst, arith}
-use Rattle.snap_steps.specs.Seen.{Known}
-use Rattle.snap_service.specs.Courses.{fronts_of}
-use Rattle.snap_service.specs.Kits.{IsUncut}
-use Rattle.snap_service.specs.States.{AreSeated, new_kit, opened, pass_at}
-use Rattle.snap_crew.specs.Endings.{AreWorkers, IsTrue}
-use Rattle.snap_crew.specs.Works.{commands_of}
+use Rattle.snap_prelude.specs.{Known}
+use Rattle.snap_service.specs.Prelude.{AreSeated, fronts_of, IsUncut, new_kit, opened, pass_at}
+use Rattle.snap_crew.specs.Prelude.{AreWorkers, commands_of, IsTrue}
 use Rattle.snap_crew.proofs.Beginning.{first_uses, left_new, new_seated, new_uncut, own_new, some_of}
 use Rattle.snap_crew.proofs.Handing.{named_fit, true_front}
 use Rattle.snap_crew.proofs.Working.{numbered}

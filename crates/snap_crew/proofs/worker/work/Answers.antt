@@ -1,8 +1,8 @@
-use Rattle.std.proofs.Common.{◌++◌, ℕ, List, arith, length, ap, ◌∙◌}
-use Rattle.std.proofs.lemmas.List.{length-map}
+use Rattle.std.proofs.Common.{◌++◌, ℕ, List, arith, ap, ◌∙◌}
+use Rattle.snap_prelude.proofs.Common.{length-map}
 use Rattle.snap_text.specs.declared.script.Line.{Line}
-use Rattle.snap_service.specs.Serving.{text_of}
-use Rattle.snap_crew.specs.Works.{commands_of}
+use Rattle.snap_service.specs.Prelude.{text_of}
+use Rattle.snap_crew.specs.Prelude.{commands_of}
 use Rattle.snap_crew.proofs.Replying.{serves_reply}
 use Rattle.snap_crew.proofs.Working.{at_start, can_run, command_at, command_within, few_full, has_run, one_more}
 use Rattle.snap_crew.proofs.worker.work.Goals as goal

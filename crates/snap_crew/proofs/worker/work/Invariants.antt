@@ -1,4 +1,4 @@
-use Rattle.snap_crew.specs.Works.{commands_of}
+use Rattle.snap_crew.specs.Prelude.{commands_of}
 use Rattle.snap_crew.proofs.Working.{IsAt}
 use Rattle.snap_crew.proofs.worker.work.Given as goal
 

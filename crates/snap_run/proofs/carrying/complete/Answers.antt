@@ -1,8 +1,7 @@
-use Rattle.std.specs.Prelude.{IfOk, OnOk, ◌++◌, is_some, unwrap_or}
-use Rattle.std.proofs.Common.{◌≡◌, List, [], ℕ, Bool, subst, sym}
-use Rattle.snap_io.specs.Shelves.{Changes, IfTold}
+use Rattle.std.proofs.Common.{◌≡◌, List, [], ℕ, subst, sym, ◌++◌, is_some, unwrap_or}
+use Rattle.snap_io.specs.Prelude.{Changes, IfTold}
 use Rattle.snap_text.specs.declared.script.Line.{Line}
-use Rattle.snap_crew.specs.Jobs.{IsTask}
+use Rattle.snap_crew.specs.Prelude.{IsTask}
 use Rattle.snap_write.specs.Outputs.{HasWritten, blank}
 use Rattle.snap_run.specs.Files.{AreBlank, KeepsOthers, answers_in, last_in, names_written}
 use Rattle.snap_run.specs.Worlds.{world}

@@ -1,7 +1,7 @@
 use Rattle.std.proofs.Common.{◌∙◌, ◌≡◌, ◌<◌, List, ℕ, [], ◌∷◌, length, get_or, arith, refl, ap, sym, subst}
-use Rattle.std.proofs.lemmas.List.{take_all}
+use Rattle.snap_prelude.proofs.Common.{take_all}
 use Rattle.snap_crew.specs.declared.answers.Answers.{Answers}
-use Rattle.snap_io.specs.Shelves.{Changes}
+use Rattle.snap_io.specs.Prelude.{Changes}
 use Rattle.snap_write.specs.Outputs.{HasBegun, HasWritten, names_of}
 use Rattle.snap_write.proofs.Causes.{if_err, unwritten_at}
 use Rattle.snap_write.proofs.Written.{begun_here, nothing_written, on_err, one_more}

@@ -1,5 +1,5 @@
 use Rattle.std.proofs.Common.{◌≡◌, ◌≤◌, take}
-use Rattle.snap_io.specs.Shelves.{Changes}
+use Rattle.snap_io.specs.Prelude.{Changes}
 use Rattle.snap_write.specs.Outputs.{HasWritten}
 use Rattle.snap_run.specs.Files.{replies_in}
 use Rattle.snap_run.proofs.replies.append_replies.Given as goal

@@ -1,7 +1,7 @@
-use Rattle.std.proofs.Common.{List, ℕ, ◌≤◌, arith, subst, sym}
+use Rattle.std.proofs.Common.{List, ℕ, ◌≤◌, subst, sym}
 use Rattle.snap_write.specs.Outputs.{IsUnwritten, names_of}
-use Rattle.snap_io.specs.Causes.{Rose}
-use Rattle.snap_write.proofs.Causes.{if_err, rose_before, rose_behind}
+use Rattle.snap_io.specs.Prelude.{Rose}
+use Rattle.snap_write.proofs.Causes.{if_err, rose_behind}
 use Rattle.snap_write.proofs.Written.{on_err}
 use Rattle.snap_run.specs.Files.{exports_in, replies_in}
 use Rattle.snap_run.proofs.Pairs.{Differ}

@@ -1,7 +1,6 @@
 use Rattle.std.proofs.Common.{◌∙◌, ◌++◌, List, ℕ, arith, refl, sym, subst}
 use Rattle.std.proofs.Common.{take, drop, ◌+◌}
-use Rattle.snap_io.specs.Causes.{Rose}
-use Rattle.snap_io.specs.Shelves.{Changes}
+use Rattle.snap_io.specs.Prelude.{Changes, Rose}
 use Rattle.snap_write.specs.Outputs.{HasBegun, HasWritten, IsUnwritten, Outputs, names_of}
 use Rattle.snap_run.proofs.Pairs.{Differ}
 use Rattle.snap_write.proofs.Causes.{if_err, rose_behind}

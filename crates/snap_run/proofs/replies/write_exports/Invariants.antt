@@ -1,5 +1,5 @@
 use Rattle.std.proofs.Common.{◌≡◌, ◌≤◌, take}
-use Rattle.snap_io.specs.Shelves.{Changes}
+use Rattle.snap_io.specs.Prelude.{Changes}
 use Rattle.snap_write.specs.Outputs.{HasWritten}
 use Rattle.snap_run.specs.Files.{exports_in}
 use Rattle.snap_run.proofs.replies.write_exports.Given as goal

@@ -1,8 +1,7 @@
-use Rattle.std.proofs.Common.{List, ℕ, ◌≤◌, ◌++◌, arith, subst, sym}
+use Rattle.std.proofs.Common.{List, ℕ, ◌≤◌, ◌++◌, subst, sym}
 use Rattle.snap_crew.specs.declared.answers.Answers.{Answers}
-use Rattle.snap_io.specs.Causes.{Rose}
-use Rattle.snap_io.specs.Shelves.{Changes}
-use Rattle.snap_write.specs.Outputs.{HasBegun, HasWritten, IsUnwritten, Outputs, names_of}
+use Rattle.snap_io.specs.Prelude.{Changes, Rose}
+use Rattle.snap_write.specs.Outputs.{HasBegun, HasWritten, IsUnwritten, names_of}
 use Rattle.snap_write.proofs.Causes.{rose_behind}
 use Rattle.snap_run.specs.Files.{answers_in, last_in}
 use Rattle.snap_run.proofs.Pairs.{Differ}

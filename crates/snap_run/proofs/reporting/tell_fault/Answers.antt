@@ -1,6 +1,5 @@
 use Rattle.std.proofs.Common.{List, ℕ, ◌∙◌, subst}
-use Rattle.snap_io.specs.Causes.{Rose}
-use Rattle.snap_run.specs.Printed.{fault_text}
+use Rattle.snap_io.specs.Prelude.{Rose}
 use Rattle.snap_run.specs.Worlds.{Tells}
 use Rattle.snap_run.proofs.Results.{told_by}
 use Rattle.snap_run.proofs.reporting.tell_fault.Goals as goal

@@ -1,6 +1,6 @@
 use Rattle.std.specs.String.{string_bytes}
 use Rattle.std.proofs.Common.{List, Option, ℕ, ap, inr, map, subst, ◌∙◌}
-use Rattle.snap_io.specs.Shelves.{Changes, Files}
+use Rattle.snap_io.specs.Prelude.{Changes, Files}
 use Rattle.snap_plan.specs.Endings.{ending_of}
 use Rattle.snap_words.specs.Words.{job_of}
 use Rattle.snap_run.specs.Worlds.{world}

@@ -1,5 +1,5 @@
-use Rattle.std.proofs.Common.{◌≡◌, ◌++◌, ◌∙◌, List, ℕ, ap, ap₂, sym, append_assoc, append-nil, get_or, take}
-use Rattle.snap_steps.specs.Ending.{Ended}
+use Rattle.std.proofs.Common.{◌≡◌, ◌++◌, ◌∙◌, List, ℕ, ap, sym, append_assoc, append-nil, get_or, take}
+use Rattle.snap_prelude.specs.{Ended}
 use Rattle.snap_run.specs.Printed.{first_line, table_line, table_lines}
 use Rattle.snap_run.proofs.Summaries.{lines_all, lines_next}
 use Rattle.snap_run.proofs.summary.summary_text.Goals as goal

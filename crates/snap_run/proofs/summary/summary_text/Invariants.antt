@@ -1,5 +1,4 @@
-use Rattle.std.proofs.Common.{◌≡◌, ◌++◌, take}
-use Rattle.std.specs.Prelude.{string_bytes}
+use Rattle.std.proofs.Common.{◌≡◌, ◌++◌, take, string_bytes}
 use Rattle.snap_run.specs.Printed.{first_line, table_lines}
 use Rattle.snap_run.proofs.summary.summary_text.Given as goal
 

@@ -1,5 +1,5 @@
 use Rattle.std.proofs.Common.{ap, sym}
-use Rattle.snap_service.specs.Serving.{is_yes}
+use Rattle.snap_service.specs.Prelude.{is_yes}
 use Rattle.snap_service.proofs.Measuring.{measured, not_yes}
 use Rattle.snap_service.proofs.asking.measure.Goals as goal
 

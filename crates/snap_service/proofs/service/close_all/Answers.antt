@@ -1,8 +1,6 @@
-use Rattle.std.proofs.Common.{Bool, cond, ℕ, [], ◌∷◌, ◌++◌, ◌≡◌, ◌+◌, ◌<◌, length, length-append, sym, ap, subst, ◌∙◌, arith}
-use Rattle.snap_steps.specs.Ending.{SpeaksForAll}
-use Rattle.snap_steps.specs.Seen.{Known, Laid}
-use Rattle.snap_service.specs.States.{IsSeated, nobody, nowhere, pass_at}
-use Rattle.std.specs.Prelude.{slice_index_or}
+use Rattle.std.proofs.Common.{Bool, cond, ℕ, [], ◌∷◌, ◌++◌, ◌≡◌, ◌+◌, ◌<◌, length, length-append, sym, ap, subst, ◌∙◌, arith, slice_index_or}
+use Rattle.snap_prelude.specs.{Known, Laid, SpeaksForAll}
+use Rattle.snap_service.specs.Prelude.{IsSeated, nobody, nowhere, pass_at}
 use Rattle.snap_service.proofs.Ending.{all_closed, closed_next, fewer_is, last_is, one_less}
 use Rattle.snap_service.proofs.service.close_all.Goals as goal
 

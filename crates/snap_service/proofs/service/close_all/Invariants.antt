@@ -1,7 +1,6 @@
-use Rattle.std.proofs.Common.{◌≡◌, ◌≤◌, ◌+◌, ℕ, length, take, Some}
-use Rattle.std.specs.Prelude.{slice_get, vec_capacity}
-use Rattle.snap_steps.specs.Ending.{Ended, Closes}
-use Rattle.snap_service.specs.States.{pass_at}
+use Rattle.std.proofs.Common.{◌≡◌, ◌≤◌, ◌+◌, ℕ, length, take, Some, slice_get, vec_capacity}
+use Rattle.snap_prelude.specs.{Closes, Ended}
+use Rattle.snap_service.specs.Prelude.{pass_at}
 use Rattle.snap_service.proofs.service.close_all.Given as goal
 
 -- the tables from here on were closed, the last one first

@@ -1,5 +1,5 @@
 use Rattle.std.proofs.Common.{length, sym, ap, ◌∙◌}
-use Rattle.snap_service.specs.States.{Tables}
+use Rattle.snap_service.specs.Prelude.{Tables}
 use Rattle.snap_service.proofs.Opening.{all_seated, first_many, more_far, none_far}
 use Rattle.snap_service.proofs.service.Service.open.Goals as goal
 

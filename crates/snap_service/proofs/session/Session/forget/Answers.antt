@@ -1,5 +1,5 @@
 use Rattle.std.proofs.Common.{None, length, ap, arith}
-use Rattle.snap_service.specs.States.{State}
+use Rattle.snap_service.specs.Prelude.{State}
 use Rattle.snap_service.proofs.Bridge.{taken_within}
 use Rattle.snap_service.proofs.Using.{well_slot}
 use Rattle.snap_service.proofs.session.Session.forget.Goals as goal

@@ -1,8 +1,7 @@
 use Rattle.std.proofs.Common.{ap, subst, arith}
-use Rattle.snap_model.specs.SortedMap.{Pairs}
-use Rattle.snap_service.specs.Serving.{Loaded}
+use Rattle.snap_prelude.specs.{Pairs}
+use Rattle.snap_service.specs.Prelude.{Loaded, most_uses, State, Tables}
 use Rattle.snap_text.specs.LoadFiles.{pairs_of}
-use Rattle.snap_service.specs.States.{State, Tables, most_uses}
 use Rattle.snap_service.proofs.Using.{loaded_done, seat_here, seat_loaded, uses_le, well_set}
 use Rattle.snap_service.proofs.session.Session.load.Goals as goal
 

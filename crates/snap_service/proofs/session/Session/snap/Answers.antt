@@ -1,5 +1,5 @@
 use Rattle.std.proofs.Common.{ap, arith}
-use Rattle.snap_service.specs.States.{State, most_uses}
+use Rattle.snap_service.specs.Prelude.{most_uses, State}
 use Rattle.snap_service.proofs.Using.{cut_done, uses_le}
 use Rattle.snap_service.proofs.session.Session.snap.Goals as goal
 

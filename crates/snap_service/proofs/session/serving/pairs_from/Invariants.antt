@@ -1,6 +1,5 @@
 use Rattle.std.proofs.Common.{◌≡◌, ◌++◌}
-use Rattle.snap_model.specs.History.{after}
-use Rattle.snap_model.specs.SortedMap.{range}
+use Rattle.snap_prelude.specs.{after, range}
 use Rattle.snap_view.specs.Walks.{pairs_left}
 use Rattle.snap_service.proofs.session.serving.pairs_from.Given as goal
 

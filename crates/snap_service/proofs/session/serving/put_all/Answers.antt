@@ -1,9 +1,7 @@
-use Rattle.std.proofs.Common.{inr, ap, sym, ◌∙◌, subst, refl, get_or, take, arith}
-use Rattle.std.specs.Prelude.{slice_get}
-use Rattle.std.proofs.lemmas.List.{take_more}
-use Rattle.snap_model.specs.SortedMap.{Pairs}
-use Rattle.snap_steps.specs.Seen.{Known}
-use Rattle.snap_service.specs.Serving.{PutAll}
+use Rattle.std.proofs.Common.{inr, ap, sym, ◌∙◌, subst, refl, get_or, take, arith, slice_get}
+use Rattle.snap_prelude.proofs.Common.{take_more}
+use Rattle.snap_prelude.specs.{Known, Pairs}
+use Rattle.snap_service.specs.Prelude.{PutAll}
 use Rattle.snap_service.proofs.Using.{err_of, get_some, ok_of, put_more}
 use Rattle.snap_service.proofs.session.serving.put_all.Goals as goal
 

@@ -1,7 +1,7 @@
 use Rattle.std.proofs.Common.{◌≡◌, ◌+◌, take}
-use Rattle.snap_steps.specs.Seen.{IsOf}
+use Rattle.snap_prelude.specs.{IsOf}
 use Rattle.snap_table.specs.Calls.{IsIdle}
-use Rattle.snap_service.specs.Serving.{PutAll}
+use Rattle.snap_service.specs.Prelude.{PutAll}
 use Rattle.snap_service.proofs.session.serving.put_all.Given as goal
 
 -- the pairs so far were put
