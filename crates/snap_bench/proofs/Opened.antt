@@ -1,9 +1,9 @@
 -- The passes that a table begins with are at rest.
 use Rattle.std.proofs.Common.{◌≡◌, refl, ℕ, zero, suc, List, [], ◌∷◌, All, sym, ◌∙◌}
-use Rattle.std.proofs.lemmas.List.Elements.{All-nil, All-cons, All-append, All-same}
+use Rattle.snap_prelude.proofs.Common.{All-cons, All-nil}
+use Rattle.std.proofs.lemmas.List.Elements.{All-append, All-same}
 use Rattle.snap_bench.specs.Passes.{IsAtRest}
-use Rattle.snap_steps.specs.Roles.{newcomer}
-use Rattle.snap_steps.specs.Seen.{Known, Laid, IsOpened, first_passes}
+use Rattle.snap_prelude.specs.{first_passes, IsOpened, Known, Laid, newcomer}
 
 abbrev known : Laid → ℕ → Known
 known t n = record { table = t.table; view = newcomer t.rows t.passes n }

@@ -3,14 +3,15 @@ ghost use Rattle.std.specs.Prelude.{◌≤◌};
 
 use crate::fault::Fault;
 use crate::keys::Order;
-use crate::workers::{OfTable, fill, open_table, workers_of};
+use crate::watch::nanos_each;
+use crate::workers::{OfTable, fill, open_for_one};
 use snap_view::Settled;
 use std::alloc::Global;
 use std::sync::Wait;
 use std::time::{Clock, Instant};
 
 /// What puts made of a table.
-#[derive(Drop)]
+#[derive(Clone, Copy)]
 pub struct Balance {
     /// Nanoseconds of one put.
     pub put: u64,
@@ -21,7 +22,7 @@ pub struct Balance {
 }
 
 /// How the tree of a clone stands.
-#[derive(Drop)]
+#[derive(Clone, Copy)]
 pub struct Shape {
     /// Rows on the longest way down.
     pub depth: u32,
@@ -38,14 +39,20 @@ pub fn balance_of<R: Wait + Clock>(
 ) -> Result<Balance, Fault>
     requires { size ≤ 1_000_000 }
 {
-    let (table, passes) = open_table(alloc, size + 48, 1)?;
-    let mut workers = workers_of(alloc, &table, passes)?;
-    let Some(mut worker) = workers.pop() else {
-        return Err(Fault::Out);
-    };
-    let put = time_puts(rt, &mut worker, size, order)?;
+    let (table, pass) = open_for_one(alloc, size + 48)?;
+    let mut worker = OfTable::new(&table, pass);
+    balance_by(rt, &mut worker, size, order)
+}
+
+fn balance_by<R: Wait + Clock>(
+    rt: &R,
+    worker: &mut OfTable<'_>,
+    size: u32,
+    order: Order,
+) -> Result<Balance, Fault> {
+    let put = time_puts(rt, worker, size, order)?;
     let drawn = worker.drawn_rows();
-    let shape = shape_of(rt, &mut worker)?;
+    let shape = shape_of(rt, worker)?;
     Ok(Balance { put, drawn, shape })
 }
 
@@ -57,8 +64,7 @@ fn time_puts<R: Wait + Clock>(
 ) -> Result<u64, Fault> {
     let start = Instant::now(rt)?;
     fill(rt, worker, size, order)?;
-    let taken = start.elapsed(rt)?.as_nanos() / size.max(1) as u128;
-    Ok(u64::try_from(taken).unwrap_or(u64::MAX))
+    nanos_each(rt, start, size)
 }
 
 fn shape_of<R: Wait>(rt: &R, worker: &mut OfTable<'_>) -> Result<Shape, Fault> {

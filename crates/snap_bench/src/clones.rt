@@ -3,7 +3,11 @@ ghost use Rattle.std.specs.Prelude.{◌≤◌};
 
 use crate::fault::Fault;
 use crate::keys::{Order, spread};
-use crate::workers::{OfTable, Sorted, Worker, fill, open_table, workers_of};
+use crate::watch::nanos_each;
+use crate::workers::{
+    OfTable, Sorted, Worker, fill, one_and_others, open_for_one, open_table, pairs_of,
+};
+use snap_view::TableView;
 use std::alloc::Global;
 use std::sync::Wait;
 use std::sync::atomic::{AtomicU64, Ordering};
@@ -15,7 +19,7 @@ use std::time::{Clock, Instant};
 const CLONES: u32 = 1_000;
 
 /// What one clone of a map costs.
-#[derive(Drop)]
+#[derive(Clone, Copy)]
 pub struct CloneCost {
     /// Nanoseconds of one clone of a table.
     pub clone: u64,
@@ -28,22 +32,33 @@ pub struct CloneCost {
 pub fn clone_cost<R: Wait + Clock>(rt: &R, alloc: Global, size: u32) -> Result<CloneCost, Fault>
     requires { size ≤ 1_000_000 }
 {
-    let (table, passes) = open_table(alloc, size + 48, 1)?;
-    let mut workers = workers_of(alloc, &table, passes)?;
-    let Some(mut worker) = workers.pop() else {
-        return Err(Fault::Out);
-    };
-    fill(rt, &mut worker, size, Order::AsIfByLot)?;
-    let clone = time_clones(rt, &mut worker)?;
-    let before = worker.drawn_rows();
-    worker.put(rt, spread(size / 2), 0)?;
-    let drawn = worker.drawn_rows().saturating_sub(before);
+    let (table, pass) = open_for_one(alloc, size + 48)?;
+    let mut worker = OfTable::new(&table, pass);
+    clone_cost_by(rt, alloc, &mut worker, size)
+}
+
+fn clone_cost_by<R: Wait + Clock>(
+    rt: &R,
+    alloc: Global,
+    worker: &mut OfTable<'_>,
+    size: u32,
+) -> Result<CloneCost, Fault> {
+    fill(rt, worker, size, Order::AsIfByLot)?;
+    let clone = time_clones(rt, worker)?;
+    let drawn = first_write(rt, worker, size)?;
     let copy = time_copy(rt, alloc, size)?;
     Ok(CloneCost { clone, drawn, copy })
 }
 
+// How many rows a put draws.
+fn first_write<R: Wait>(rt: &R, worker: &mut OfTable<'_>, size: u32) -> Result<u32, Fault> {
+    let before = worker.drawn_rows();
+    worker.put(rt, spread(size / 2), 0)?;
+    Ok(worker.drawn_rows().saturating_sub(before))
+}
+
 /// What it costs to count the pairs of a clone in a range.
-#[derive(Drop)]
+#[derive(Clone, Copy)]
 pub struct CountCost {
     /// How many pairs were counted.
     pub pairs: u64,
@@ -60,25 +75,43 @@ pub fn count_cost<R: Wait + Clock>(
 ) -> Result<CountCost, Fault>
     requires { size ≤ 1_000_000 }
 {
-    let (table, passes) = open_table(alloc, size + 48, 1)?;
-    let mut workers = workers_of(alloc, &table, passes)?;
-    let Some(mut worker) = workers.pop() else {
-        return Err(Fault::Out);
-    };
-    fill(rt, &mut worker, size, Order::AsIfByLot)?;
-    let mut view = worker.clone_view(rt)?;
+    let (table, pass) = open_for_one(alloc, size + 48)?;
+    let mut worker = OfTable::new(&table, pass);
     let apart = u64::MAX / size.max(1) as u64;
-    let high = apart.saturating_mul(wanted as u64);
+    count_cost_by(rt, &mut worker, size, apart.saturating_mul(wanted as u64))
+}
+
+fn count_cost_by<R: Wait + Clock>(
+    rt: &R,
+    worker: &mut OfTable<'_>,
+    size: u32,
+    high: u64,
+) -> Result<CountCost, Fault> {
+    let mut view = filled_clone(rt, worker, size)?;
+    let counted = time_count(rt, &mut view, high);
+    view.release();
+    counted
+}
+
+// A clone of the worker's table behind puts of so many keys.
+fn filled_clone<'t, R: Wait>(
+    rt: &R,
+    worker: &mut OfTable<'t>,
+    size: u32,
+) -> Result<TableView<'t>, Fault> {
+    fill(rt, worker, size, Order::AsIfByLot)?;
+    worker.clone_view(rt)
+}
+
+fn time_count<R: Clock>(rt: &R, view: &mut TableView<'_>, high: u64) -> Result<CountCost, Fault> {
     let start = Instant::now(rt)?;
     let pairs = view.count(0, high);
-    let taken = start.elapsed(rt)?.as_nanos();
-    view.release();
-    let nanos = u64::try_from(taken).unwrap_or(u64::MAX);
+    let nanos = nanos_each(rt, start, 1)?;
     Ok(CountCost { pairs, nanos })
 }
 
 /// How many rows a reader of a clone passes on its ways down.
-#[derive(Drop)]
+#[derive(Clone, Copy)]
 pub struct Ways {
     /// On the longest of the ways to the table's keys.
     pub greatest: u32,
@@ -90,13 +123,19 @@ pub struct Ways {
 pub fn ways_of<R: Wait>(rt: &R, alloc: Global, size: u32) -> Result<Ways, Fault>
     requires { size ≤ 1_000_000 }
 {
-    let (table, passes) = open_table(alloc, size + 48, 1)?;
-    let mut workers = workers_of(alloc, &table, passes)?;
-    let Some(mut worker) = workers.pop() else {
-        return Err(Fault::Out);
-    };
-    fill(rt, &mut worker, size, Order::AsIfByLot)?;
-    let mut view = worker.clone_view(rt)?;
+    let (table, pass) = open_for_one(alloc, size + 48)?;
+    let mut worker = OfTable::new(&table, pass);
+    ways_by(rt, &mut worker, size)
+}
+
+fn ways_by<R: Wait>(rt: &R, worker: &mut OfTable<'_>, size: u32) -> Result<Ways, Fault> {
+    let mut view = filled_clone(rt, worker, size)?;
+    let ways = ways_down(&mut view, size);
+    view.release();
+    Ok(ways)
+}
+
+fn ways_down(view: &mut TableView<'_>, size: u32) -> Ways {
     let mut greatest: u32 = 0;
     let mut sum: u64 = 0;
     for number in 0..size {
@@ -104,9 +143,8 @@ pub fn ways_of<R: Wait>(rt: &R, alloc: Global, size: u32) -> Result<Ways, Fault>
         greatest = greatest.max(levels);
         sum = sum.saturating_add(levels as u64);
     }
-    view.release();
     let tenths = sum.saturating_mul(10) / size.max(1) as u64;
-    Ok(Ways { greatest, tenths })
+    Ways { greatest, tenths }
 }
 
 fn time_clones<R: Wait + Clock>(rt: &R, worker: &mut OfTable<'_>) -> Result<u64, Fault> {
@@ -114,24 +152,29 @@ fn time_clones<R: Wait + Clock>(rt: &R, worker: &mut OfTable<'_>) -> Result<u64,
     for _ in 0..CLONES {
         worker.clone_view(rt)?.release();
     }
-    let taken = start.elapsed(rt)?.as_nanos() / CLONES as u128;
-    Ok(u64::try_from(taken).unwrap_or(u64::MAX))
+    nanos_each(rt, start, CLONES)
 }
 
-fn time_copy<R: Clock>(rt: &R, alloc: Global, size: u32) -> Result<u64, Fault> {
+// A standard sorted map with the keys of a filled table.
+fn sorted(alloc: Global, size: u32) -> Result<Sorted, Fault> {
     let mut map = Sorted::new(alloc);
     for number in 0..size {
         if map.insert(spread(number), number as u64).is_err() {
             return Err(Fault::Memory);
         }
     }
+    Ok(map)
+}
+
+fn time_copy<R: Clock>(rt: &R, alloc: Global, size: u32) -> Result<u64, Fault> {
+    let map = sorted(alloc, size)?;
     let start = Instant::now(rt)?;
     let copy = map.clone()?;
-    let taken = start.elapsed(rt)?.as_nanos();
+    let nanos = nanos_each(rt, start, 1)?;
     if copy.len() != map.len() {
         return Err(Fault::Memory);
     }
-    Ok(u64::try_from(taken).unwrap_or(u64::MAX))
+    Ok(nanos)
 }
 
 /// How many pairs of a clone a reader gets in a second, while so many writers put at the keys of its table.
@@ -145,16 +188,33 @@ pub fn scan_rate<R: Threads + Wait + Clock + Sync>(
     requires writers { writers ≤ 16 }
 {
     let (table, passes) = open_table(alloc, size * 2 + 48, writers + 1)?;
-    let mut workers = workers_of(alloc, &table, passes)?;
-    let Some(mut reader) = workers.pop() else {
-        return Err(Fault::Out);
-    };
-    fill(rt, &mut reader, size, Order::AsIfByLot)?;
+    let (mut reader, mut workers) = one_and_others(alloc, &table, passes)?;
+    scan_rate_by(rt, &mut reader, &mut workers, size)
+}
+
+// The reader fills the table.
+fn scan_rate_by<R: Threads + Wait + Clock + Sync>(
+    rt: &R,
+    reader: &mut OfTable<'_>,
+    writers: &mut Vec<OfTable<'_>>,
+    size: u32,
+) -> Result<u64, Fault> {
+    fill(rt, reader, size, Order::AsIfByLot)?;
+    scan_beside(rt, reader, writers, size)
+}
+
+// The reader scans once, while the others write, each in a thread of its own.
+fn scan_beside<R: Threads + Wait + Clock + Sync>(
+    rt: &R,
+    reader: &mut OfTable<'_>,
+    writers: &mut Vec<OfTable<'_>>,
+    size: u32,
+) -> Result<u64, Fault> {
     let ended = AtomicU64::new(0);
     let shared = &ended;
-    let scanned = thread::scope(thread::scope_env(), rt, |scope| -> Result<u64, Fault> {
-        for _ in 0..writers {
-            let Some(worker) = workers.pop() else {
+    thread::scope(thread::scope_env(), rt, |scope| -> Result<u64, Fault> {
+        for _ in 0..writers.len() {
+            let Some(worker) = writers.pop() else {
                 return Err(Fault::Out);
             };
             let spawned = scope.spawn(move || write_until(rt, worker, size, shared));
@@ -162,24 +222,23 @@ pub fn scan_rate<R: Threads + Wait + Clock + Sync>(
                 return Err(Fault::Out);
             }
         }
-        let rate = scan(rt, &mut reader);
+        let rate = scan(rt, reader);
         shared.store(1, Ordering::SeqCst);
         rate
-    });
-    scanned
+    })
 }
 
 fn scan<R: Wait + Clock>(rt: &R, reader: &mut OfTable<'_>) -> Result<u64, Fault> {
     let mut view = reader.clone_view(rt)?;
-    let mut pairs = 0u64;
-    let start = Instant::now(rt)?;
-    for (_, value) in view.pairs() {
-        if value < u64::MAX {
-            pairs = pairs.saturating_add(1);
-        }
-    }
-    let nanos = start.elapsed(rt)?.as_nanos();
+    let rate = scan_view(rt, &mut view);
     view.release();
+    rate
+}
+
+fn scan_view<R: Clock>(rt: &R, view: &mut TableView<'_>) -> Result<u64, Fault> {
+    let start = Instant::now(rt)?;
+    let pairs = pairs_of(view);
+    let nanos = start.elapsed(rt)?.as_nanos();
     let rate = pairs as u128 * 1_000_000_000 / nanos.max(1);
     Ok(u64::try_from(rate).unwrap_or(u64::MAX))
 }

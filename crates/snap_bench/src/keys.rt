@@ -47,6 +47,14 @@ pub enum Order {
 }
 
 impl Order {
+    pub fn name(self) -> &'static str {
+        match self {
+            Order::Rising => "rising",
+            Order::AsIfByLot => "as if by lot",
+            Order::Golden => "golden",
+        }
+    }
+
     /// The key at this place of the order.
     pub fn key(self, place: u32) -> u64 {
         match self {

@@ -4,7 +4,7 @@ ghost use Rattle.std.specs.Prelude.{◌≤◌};
 use crate::draws::{Draws, key_of, share_of};
 use crate::fault::Fault;
 use crate::watch::Watch;
-use crate::workers::{OfTable, Worker, open_table, workers_of};
+use crate::workers::{OfTable, Worker, one_and_others, open_table};
 use std::alloc::Global;
 use std::io::Print;
 use std::sync::Wait;
@@ -74,28 +74,64 @@ pub fn tell_mix<R: Threads + Wait + Clock + CpuClock + Print + Sync>(
     requires threads { mix.threads ≤ 16 }
 {
     let (table, passes) = open_table(alloc, MOST_ROWS, mix.threads * 2 + 1)?;
-    let mut workers = workers_of(alloc, &table, passes)?;
-    let Some(mut first) = workers.pop() else {
-        return Err(Fault::Out);
-    };
-    let tally = Tally {
-        calls: AtomicU64::new(0),
-        fresh: AtomicU64::new(half_fill(rt, &mut first, mix.keys)?),
-        taken: AtomicU64::new(0),
-        faults: AtomicU64::new(0),
-    };
-    run_phase(rt, &mut workers, Phase::start(rt, mix, 1, &tally)?)?;
+    let (mut first, mut workers) = one_and_others(alloc, &table, passes)?;
+    run_mix(rt, &mut first, &mut workers, mix, cell)
+}
+
+// The first worker fills the table and counts what is left, and each of the others is a thread's in one phase.
+fn run_mix<R: Threads + Wait + Clock + CpuClock + Print + Sync>(
+    rt: &R,
+    first: &mut OfTable<'_>,
+    workers: &mut Vec<OfTable<'_>>,
+    mix: Mix,
+    cell: &str,
+) -> Result<(), Fault> {
+    let tally = Tally::new(half_fill(rt, first, mix.keys)?);
+    run_phases(rt, workers, mix, &tally, cell)?;
+    tally.confirm(present(rt, first, mix.keys))
+}
+
+impl Tally {
+    // So many keys are there already.
+    fn new(pairs: u64) -> Tally {
+        Tally {
+            calls: AtomicU64::new(0),
+            fresh: AtomicU64::new(pairs),
+            taken: AtomicU64::new(0),
+            faults: AtomicU64::new(0),
+        }
+    }
+
+    fn add(&self, count: Count) {
+        self.calls.fetch_add(count.calls, Ordering::SeqCst);
+        self.fresh.fetch_add(count.fresh, Ordering::SeqCst);
+        self.taken.fetch_add(count.taken, Ordering::SeqCst);
+    }
+
+    // Refuses any other number of pairs than the calls leave.
+    fn confirm(&self, left: u64) -> Result<(), Fault> {
+        let taken = self.taken.load(Ordering::SeqCst);
+        if left.saturating_add(taken) != self.fresh.load(Ordering::SeqCst) {
+            return Err(Fault::Lost);
+        }
+        Ok(())
+    }
+}
+
+// Both phases, of which the second is told.
+fn run_phases<R: Threads + Wait + Clock + CpuClock + Print + Sync>(
+    rt: &R,
+    workers: &mut Vec<OfTable<'_>>,
+    mix: Mix,
+    tally: &Tally,
+    cell: &str,
+) -> Result<(), Fault> {
+    run_phase(rt, workers, mix, 1, tally)?;
     let before = tally.calls.load(Ordering::SeqCst);
     let watch = Watch::start(rt)?;
-    run_phase(rt, &mut workers, Phase::start(rt, mix, 2, &tally)?)?;
+    run_phase(rt, workers, mix, 2, tally)?;
     let calls = tally.calls.load(Ordering::SeqCst).saturating_sub(before);
-    watch.tell(rt, cell, calls)?;
-    let left = present(rt, &mut first, mix.keys);
-    let taken = tally.taken.load(Ordering::SeqCst);
-    if left.saturating_add(taken) != tally.fresh.load(Ordering::SeqCst) {
-        return Err(Fault::Lost);
-    }
-    Ok(())
+    watch.tell(rt, cell, calls)
 }
 
 // Puts keys until half of them are there, and answers how many are.
@@ -143,29 +179,39 @@ impl<'t> Phase<'t> {
 }
 
 // All threads at once, each with a worker that it takes off the list.
-fn run_phase<R: Threads + Wait + Clock + Sync>(
+fn run_phase<R: Threads + Wait + Clock + CpuClock + Sync>(
     rt: &R,
     workers: &mut Vec<OfTable<'_>>,
-    phase: Phase<'_>,
+    mix: Mix,
+    number: u64,
+    tally: &Tally,
 ) -> Result<(), Fault> {
-    let shared = &phase;
+    let phase = Phase::start(rt, mix, number, tally)?;
+    work_beside(rt, workers, &phase);
+    if tally.faults.load(Ordering::SeqCst) > 0 {
+        return Err(Fault::Out);
+    }
+    Ok(())
+}
+
+fn work_beside<R: Threads + Wait + Clock + Sync>(
+    rt: &R,
+    workers: &mut Vec<OfTable<'_>>,
+    phase: &Phase<'_>,
+) {
     thread::scope(thread::scope_env(), rt, |scope| {
-        for thread in 0..shared.mix.threads {
+        for thread in 0..phase.mix.threads {
             let Some(worker) = workers.pop() else {
                 return;
             };
             if scope
-                .spawn(move || work(rt, worker, thread, shared))
+                .spawn(move || work(rt, worker, thread, phase))
                 .is_err()
             {
-                shared.tally.faults.fetch_add(1, Ordering::SeqCst);
+                phase.tally.faults.fetch_add(1, Ordering::SeqCst);
             }
         }
     });
-    if phase.tally.faults.load(Ordering::SeqCst) > 0 {
-        return Err(Fault::Out);
-    }
-    Ok(())
 }
 
 fn work<R: Wait + Clock>(rt: &R, worker: OfTable<'_>, thread: u32, phase: &Phase<'_>) {
@@ -193,10 +239,7 @@ fn make_calls<R: Wait + Clock>(
         }
         count = batch(rt, &mut worker, &mut draws, phase.mix, count)?;
     }
-    let tally = phase.tally;
-    tally.calls.fetch_add(count.calls, Ordering::SeqCst);
-    tally.fresh.fetch_add(count.fresh, Ordering::SeqCst);
-    tally.taken.fetch_add(count.taken, Ordering::SeqCst);
+    phase.tally.add(count);
     Ok(())
 }
 

@@ -11,7 +11,7 @@ use std::thread::Threads;
 use std::time::Clock;
 
 /// Calls a second, all threads together.
-#[derive(Drop)]
+#[derive(Clone, Copy)]
 pub struct Rates {
     pub puts: u64,
     pub gets: u64,

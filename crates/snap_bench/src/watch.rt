@@ -32,21 +32,37 @@ impl Watch {
         calls: u64,
     ) -> Result<(), Fault> {
         let passed = self.wall.elapsed(rt)?.as_nanos();
-        let now = rt.process_cpu_time()?;
-        let worked = now.saturating_sub(self.processor).as_nanos();
+        let worked = self.worked(rt)?;
         println!(rt; "SnapTable {cell} {calls} {passed} {worked}")?;
         Ok(())
     }
+
+    // The nanoseconds that processors worked.
+    fn worked<R: CpuClock>(&self, rt: &R) -> Result<u128, Fault> {
+        let now = rt.process_cpu_time()?;
+        Ok(now.saturating_sub(self.processor).as_nanos())
+    }
+}
+
+/// The nanoseconds since then of each of so many calls.
+pub fn nanos_each<R: Clock>(rt: &R, start: Instant, calls: u32) -> Result<u64, Fault> {
+    let nanos = start.elapsed(rt)?.as_nanos() / calls.max(1) as u128;
+    Ok(u64::try_from(nanos).unwrap_or(u64::MAX))
 }
 
 /// How many bytes of the process lie in memory.
 pub fn resident_bytes<R: Files + AllocGlobal>(rt: &R) -> Result<u64, Fault> {
     let text = std::fs::read_to_string(rt, "/proc/self/statm")?;
-    let Some(pages) = text.as_str().split(' ').nth(1) else {
+    bytes_in(text.as_str())
+}
+
+// The second word counts pages.
+fn bytes_in(line: &str) -> Result<u64, Fault> {
+    let Some(pages) = line.split(' ').nth(1) else {
         return Err(Fault::Usage);
     };
-    let Ok(pages) = pages.parse::<u64>() else {
-        return Err(Fault::Usage);
-    };
-    Ok(pages.saturating_mul(4096))
+    match pages.parse::<u64>() {
+        Ok(pages) => Ok(pages.saturating_mul(4096)),
+        Err(_) => Err(Fault::Usage),
+    }
 }

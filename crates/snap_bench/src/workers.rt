@@ -69,6 +69,18 @@ pub fn open_table(alloc: Global, rows: u32, passes: u32) -> Result<(SnapTable, V
     Ok(SnapTable::open(alloc, rows, passes)?)
 }
 
+/// A table of so many rows, and its one pass, at rest.
+pub fn open_for_one(alloc: Global, rows: u32) -> Result<(SnapTable, Pass), Fault>
+    requires { (0 < rows) × (rows ≤ 1048576) }
+    ensures { IfOk result (λ t. IsAtRest t.0 t.1) }
+{
+    let (table, mut passes) = open_table(alloc, rows, 1)?;
+    let Some(pass) = passes.pop() else {
+        return Err(Fault::Out);
+    };
+    Ok((table, pass))
+}
+
 /// A worker for each of the passes.
 pub fn workers_of<'t>(
     alloc: Global,
@@ -84,6 +96,32 @@ pub fn workers_of<'t>(
         }
     }
     Ok(workers)
+}
+
+/// A worker for the last of the passes, and one for each of the others.
+pub fn one_and_others<'t>(
+    alloc: Global,
+    table: &'t SnapTable,
+    passes: Vec<Pass>,
+) -> Result<(OfTable<'t>, Vec<OfTable<'t>>), Fault>
+    requires { All (IsAtRest table.now) passes.items }
+{
+    let mut workers = workers_of(alloc, table, passes)?;
+    match workers.pop() {
+        Some(one) => Ok((one, workers)),
+        None => Err(Fault::Out),
+    }
+}
+
+/// Goes through a clone, and answers how many pairs it met.
+pub fn pairs_of(view: &mut TableView<'_>) -> u64 {
+    let mut pairs = 0u64;
+    for (_, value) in view.pairs() {
+        if value < u64::MAX {
+            pairs = pairs.saturating_add(1);
+        }
+    }
+    pairs
 }
 
 /// How many uses a pass may have.
