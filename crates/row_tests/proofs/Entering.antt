@@ -2,7 +2,7 @@
 use Rattle.std.proofs.Common.{false, ap, ◌∙◌}
 use Rattle.snap_epoch.specs.Waits.{HasEntered}
 use Rattle.snap_repair.specs.Answers.{IsMending}
-use Rattle.snap_steps.specs.Seen.{Known}
+use Rattle.snap_prelude.specs.{Known}
 use Rattle.snap_table.specs.Calls.{IsIdle}
 
 pub entered_mending : (a b : Known) → IsIdle a.view → HasEntered a b → IsMending b.view

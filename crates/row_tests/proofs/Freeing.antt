@@ -1,16 +1,11 @@
 -- The rows of a change are freed one after another.
 use Rattle.std.proofs.Common.{◌≡◌, ◌≢◌, ℕ, List, [], ◌∷◌, Bool, false, true, refl, sym, ap, ◌∙◌, arith}
-use mathlib.Core.Logic.{dite}
-use native.Mathlib.Decide.{ℕ_discrete}
+use Rattle.snap_prelude.proofs.Common.{dite, one_same, removed_other, removed_same, ℕ_discrete}
 use Rattle.row_tests.specs.Stopping.{HasTaken, HoldsRoot, HoldsTop, HoldsTurn, IsWriting, MayUnlinkRoot}
 use Rattle.snap_shape.specs.Shapes.{Keeps}
 use Rattle.snap_shape.specs.declared.grip.Edge.{Edge}
 use Rattle.snap_shape.specs.declared.grip.Turn.{Turn}
-use Rattle.snap_steps.proofs.Totals.{one_same, removed_other, removed_same}
-use Rattle.snap_steps.specs.Counting.{Among, removed, times}
-use Rattle.snap_steps.specs.Seen.{Becomes, IsOf, Known, Laid}
-use Rattle.snap_steps.specs.Steps.Locks.{unlocked}
-use Rattle.snap_steps.specs.declared.view.Stage.TheVariants.{Writing}
+use Rattle.snap_prelude.specs.{Among, Becomes, IsOf, Known, Laid, removed, times, unlocked, Writing}
 
 -- a list in which no number stands is empty
 none_left : (l : List ℕ) → ((r : ℕ) → times r l ≡ 0) → l ≡ []

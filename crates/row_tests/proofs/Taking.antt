@@ -6,21 +6,13 @@ use Rattle.snap_repair.proofs.Mending.{firm_on, grip_firm, locked_firm, looks_on
 use Rattle.snap_repair.specs.Answers.{IsMending}
 use Rattle.snap_shape.specs.Grips.{HasGrip, IsEdge, Leads, edge_at, turn_at}
 use Rattle.snap_shape.specs.declared.grip.Edge.{Edge}
-use Rattle.snap_rule.specs.Debt.{no_debt}
-use Rattle.snap_stamp.specs.Stamps.{count_of, last_count}
+use Rattle.snap_prelude.specs.{Among, Becomes, count_of, Field, IsKnown, IsOf, Known, Laid}
+use Rattle.snap_prelude.specs.{last_count, link_field, no_debt, read, Side, times, Value}
 use Rattle.snap_shape.specs.declared.grip.Grip.{Grip}
 use Rattle.snap_shape.specs.declared.grip.Turn.{Turn}
 use Rattle.snap_shape.proofs.Touching.{loaded_here}
-use Rattle.snap_stamp.specs.declared.layout.Field.{Field}
-use Rattle.snap_stamp.specs.declared.layout.Field.TheVariants.{Left, Right, Value}
-use Rattle.snap_stamp.specs.declared.side.Side.{Side}
-use Rattle.snap_stamp.specs.declared.side.Side.TheVariants as sides
-use Rattle.snap_steps.proofs.Totals.{one_other, one_same}
-use Rattle.snap_steps.specs.Counting.{Among, times}
-use Rattle.snap_steps.specs.Facts.{IsKnown}
-use Rattle.snap_steps.specs.Seen.{Becomes, IsOf, Known, Laid}
-use Rattle.snap_steps.specs.States.{link_field}
-use Rattle.snap_steps.specs.Steps.Fields.{read}
+use Rattle.snap_stamp.specs.declared.layout.Field.TheVariants.{Left, Right}
+use Rattle.snap_prelude.proofs.Common.{one_other, one_same}
 use Rattle.row_tests.specs.Stopping.{HasTaken, HoldsOnly, IsGone, MayTurn, MayTurnRoot, MayUnlink, MayUnlinkRoot, Takes, TakesEdge, TakesTop}
 
 pub grip_kept : (a b : Known) (g : Grip) → Firm a b NoWord → HasGrip a.view g → HasGrip b.view g
@@ -48,7 +40,7 @@ top_only a b c upper lower free l s =
     let holds : c.view.holds ≡ 0 ∷ [] = s.1 ∙ (locked_firm a b 0 l).1 ∙ ap (λ (x : List ℕ). 0 ∷ x) free in
     λ r nz n1 n2. omega (arith, ap (times r) holds, one_other r 0 nz)
 
-pub takes : (rows : ℕ) (a b c d : Known) (upper n : ℕ) (parent child : Grip) (side : Side) → Becomes a b (read a.view parent.row (link_field side) n) → HasLocked b c n → Looks c d → child.row ≡ n → HasGrip d.view child → HasGrip a.view parent → Leads b.view parent.row side n → n ≢ 0 → n ≢ upper → n ≢ parent.row → n ≤ rows → (parent.row ≡ 0 → side ≡ sides.Right) → HoldsOnly a.view upper parent.row → Takes rows a d upper parent side child
+pub takes : (rows : ℕ) (a b c d : Known) (upper n : ℕ) (parent child : Grip) (side : Side) → Becomes a b (read a.view parent.row (link_field side) n) → HasLocked b c n → Looks c d → child.row ≡ n → HasGrip d.view child → HasGrip a.view parent → Leads b.view parent.row side n → n ≢ 0 → n ≢ upper → n ≢ parent.row → n ≤ rows → (parent.row ≡ 0 → side ≡ Side.Right) → HoldsOnly a.view upper parent.row → Takes rows a d upper parent side child
 takes rows a b c d upper n parent child side load l s is grip above leads nz n1 n2 low right only =
     let first = read_looks a b parent.row (link_field side) n load in
     let second = locked_firm b c n l in
@@ -59,7 +51,7 @@ takes rows a b c d upper n parent child side load l s is grip above leads nz n1 
       edge = record {
         above = grip_kept a d parent all above;
         below = grip;
-        leads = subst (λ (x : ℕ). IsKnown d.view.knows parent.row (link_field side) x) (sym is) (on.knows parent.row (link_field side) n (λ z. z) leads);
+        leads = subst (λ (x : ℕ). IsKnown d.view.words.knows parent.row (link_field side) x) (sym is) (on.knows parent.row (link_field side) n (λ z. z) leads);
         is_row = λ z. nz (sym is ∙ z);
         on_right = right;
         apart = λ z. n2 (sym is ∙ sym z);

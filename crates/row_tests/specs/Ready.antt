@@ -1,9 +1,6 @@
 -- A pass between two uses of the gate.
 use Rattle.std.specs.Prelude.{◌≡◌, ℕ, ◌≤◌, []}
-use Rattle.snap_rule.specs.declared.change.Doing.TheVariants.{Nothing}
-use Rattle.snap_steps.specs.Seen.{Known, Laid, IsOf}
-use Rattle.snap_steps.specs.declared.view.Role.TheVariants.{Passing}
-use Rattle.snap_steps.specs.declared.view.Stage.TheVariants.{Idle}
+use Rattle.snap_prelude.specs.{Idle, IsOf, Known, Laid, Nothing, Passing}
 
 -- a pass of that table and number that is idle and in no change, holds and admitted nothing, and has so many uses at most
 pub record IsReady (rows : Laid) (who most : ℕ) (pass : Known) : Type 0 where

@@ -1,20 +1,12 @@
 -- A write that stops in the midst of a change of the tree's shape: the rows that its pass has taken until then.
 use Rattle.std.specs.Prelude.{◌≡◌, ◌≢◌, ◌≤◌, ◌<◌, ℕ, Bool, false}
 use Rattle.snap_copy.specs.Mending.{Firm, NoWord}
-use Rattle.snap_rule.specs.declared.change.Doing.TheVariants.{Nothing}
-use Rattle.snap_stamp.specs.Stamps.{count_of, last_count}
-use Rattle.snap_rule.specs.Debt.{no_debt}
+use Rattle.snap_prelude.specs.{AimsAt, Among, count_of, IsOf, IsRouting, Known, Laid}
+use Rattle.snap_prelude.specs.{last_count, no_debt, Nothing, Side, times, View, Writing}
 use Rattle.snap_shape.specs.Grips.{AreWithin, IsEdge, IsTurning, IsWithin, edge_at}
 use Rattle.snap_shape.specs.declared.grip.Edge.{Edge}
 use Rattle.snap_shape.specs.declared.grip.Grip.{Grip}
 use Rattle.snap_shape.specs.declared.grip.Turn.{Turn}
-use Rattle.snap_stamp.specs.declared.side.Side.{Side}
-use Rattle.snap_steps.specs.Counting.{Among, times}
-use Rattle.snap_steps.specs.Seen.{IsOf, Known, Laid}
-use Rattle.snap_steps.specs.Steps.Changes.{AimsAt}
-use Rattle.snap_steps.specs.Steps.Unlinking.{IsRouting}
-use Rattle.snap_steps.specs.declared.view.Stage.TheVariants.{Writing}
-use Rattle.snap_steps.specs.declared.view.View.{View}
 
 -- no row is held but row 0 and these two
 abbrev pub HoldsOnly : View → ℕ → ℕ → Type 0

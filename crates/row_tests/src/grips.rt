@@ -2,13 +2,9 @@
 ghost use Rattle.std.specs.Prelude.{◌≡◌, ◌≢◌, ◌<◌, ◌≤◌, [], IfSome, IsTrue, MatchOption};
 ghost use Rattle.snap_copy.specs.Mending.{Looks};
 ghost use Rattle.snap_repair.specs.Answers.{IsMending};
-ghost use Rattle.snap_rule.specs.Debt.{no_debt};
-ghost use Rattle.snap_search.specs.Work.{IsReached};
+ghost use Rattle.snap_prelude.specs.{Among, count_of, IsOf, last_count, no_debt, Right};
+ghost use Rattle.snap_search.specs.Prelude.{IsReached};
 ghost use Rattle.snap_shape.specs.Grips.{HasGrip};
-ghost use Rattle.snap_stamp.specs.Stamps.{count_of, last_count};
-ghost use Rattle.snap_stamp.specs.declared.side.Side.TheVariants.{Right};
-ghost use Rattle.snap_steps.specs.Counting.{Among};
-ghost use Rattle.snap_steps.specs.Seen.{IsOf};
 ghost use Rattle.row_tests.specs.Stopping.{HoldsOnly, IsGone, MayTurn, MayTurnRoot, MayUnlink, MayUnlinkRoot, Takes, TakesEdge, TakesTop};
 
 use crate::waits::comes;

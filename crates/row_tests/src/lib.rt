@@ -8,9 +8,13 @@ mod asserts;
 #[cfg(test)]
 mod draws;
 #[cfg(test)]
+mod endings;
+#[cfg(test)]
 mod gates;
 #[cfg(test)]
 mod grips;
+#[cfg(test)]
+mod kept;
 #[cfg(test)]
 mod locks;
 #[cfg(test)]

@@ -1,12 +1,9 @@
 //! A write that stops in the midst of a rotation or of an unlinking, and the reads that then come by.
 ghost use Rattle.std.specs.Prelude.{◌≡◌, ◌<◌, ◌≤◌, ◌+◌, ◌^◌, [], false, true, MatchResult};
-ghost use Rattle.snap_rule.specs.Debt.{no_debt};
-ghost use Rattle.snap_rule.specs.declared.change.Doing.TheVariants.{Nothing};
+ghost use Rattle.snap_prelude.specs.{count_of, IsOf, last_count, no_debt, Nothing};
 ghost use Rattle.row_tests.specs.Stopping.{HoldsRoot, HoldsTop, HoldsTurn, IsGone, IsWriting};
 ghost use Rattle.snap_shape.specs.Grips.{AreWithin, IsEdge, IsTurning, IsWithin};
 ghost use Rattle.snap_shape.specs.Shapes.{Rotates, Unlinks};
-ghost use Rattle.snap_stamp.specs.Stamps.{count_of, last_count};
-ghost use Rattle.snap_steps.specs.Seen.{IsOf};
 ghost use Rattle.snap_table.specs.Calls.{IsIdle, Refuses, Replies};
 ghost use Rattle.snap_table.specs.Ready.{IsReadyTo};
 ghost use Rattle.snap_update.specs.Answers.{FitsWord};
@@ -18,7 +15,7 @@ use snap_epoch::{enter, leave};
 use snap_locks::unlock;
 use snap_model::Call;
 use snap_repair::repair;
-use snap_search::{Busy, get, try_get};
+use snap_search::{Busy, Way, get, try_get};
 use snap_shape::{Edge, Turn, child_of, rotate};
 use snap_stamp::{Key, RowNo};
 use snap_steps::{
@@ -143,7 +140,8 @@ fn end_write<R: Wait>(rows: &Rows, rt: &R, pass: &mut Pass, made: bool)
     requires writing { IsWriting rows.now pass.old made }
     requires free { pass.old.view.holds ≡ [] }
 {
-    let _ = repair(rows, rt, pass);
+    let mut way = Way::none();
+    let _ = repair(rows, rt, pass, &mut way);
     leave(rows, pass, made);
 }
 
@@ -213,8 +211,13 @@ fn unlink_slowly<R: Abort + Wait>(
     reads_find(rows, rt, alloc, reader, REMOVED_IS_NONE);
 }
 
-// A put, as the table makes it.
-fn put<R: Wait>(rows: &Rows, rt: &R, pass: &mut Pass, call: &Call) -> Result<Option<u64>, Full>
+// A put or a removal, as the table makes it.
+pub(crate) fn make<R: Wait>(
+    rows: &Rows,
+    rt: &R,
+    pass: &mut Pass,
+    call: &Call,
+) -> Result<Option<u64>, Full>
     requires table { IsOf pass.old rows.now }
     requires idle { IsIdle pass.old.view }
     requires uses { pass.old.view.uses < 2 ^ 48 }
@@ -222,9 +225,10 @@ fn put<R: Wait>(rows: &Rows, rt: &R, pass: &mut Pass, call: &Call) -> Result<Opt
     ensures { MatchResult result (λ reply. Replies pass.old pass.new call.now reply) (λ f. (f.rows ≡ rows.now.rows) × Refuses rows.now.rows pass.old pass.new call.now) }
 {
     enter(rows, rt, pass);
-    match write(rows, rt, pass, call) {
+    let mut way = Way::none();
+    match write(rows, rt, pass, call, &mut way) {
         Ok(reply) => {
-            let _ = repair(rows, rt, pass);
+            let _ = repair(rows, rt, pass, &mut way);
             leave(rows, pass, true);
             Ok(reply)
         }
@@ -236,14 +240,14 @@ fn put<R: Wait>(rows: &Rows, rt: &R, pass: &mut Pass, call: &Call) -> Result<Opt
 }
 
 // Puts at the keys 10 to 70, each of itself.
-fn put_seven<R: Wait>(rows: &Rows, rt: &R, pass: &mut Pass) -> bool
+pub(crate) fn put_seven<R: Wait>(rows: &Rows, rt: &R, pass: &mut Pass) -> bool
     requires { IsReadyTo rows.now 0 0 pass.old }
     ensures { IsReadyTo rows.now 0 7 pass.new }
 {
     let mut said = true;
     for turn in 0..7u64 {
         let key = 10 * turn + 10;
-        said = put(rows, rt, pass, &Call::Put { key, value: key }) == Ok(None) && said;
+        said = make(rows, rt, pass, &Call::Put { key, value: key }) == Ok(None) && said;
     }
     said
 }
@@ -255,8 +259,8 @@ fn put_two<R: Abort + Wait>(rows: &Rows, rt: &R, pass: &mut Pass)
 {
     let first = Call::Put { key: 1, value: 10 };
     let second = Call::Put { key: 2, value: 20 };
-    is(rt, put(rows, rt, pass, &first), Ok(None));
-    is(rt, put(rows, rt, pass, &second), Ok(None));
+    is(rt, make(rows, rt, pass, &first), Ok(None));
+    is(rt, make(rows, rt, pass, &second), Ok(None));
 }
 
 fn stop_in_rotation<R: Abort + Wait>(
@@ -300,7 +304,7 @@ fn put_eighty<R: Abort + Wait>(
     requires reader { IsOf reader rows.now }
 {
     is(rt, comes_held(rows, &mut reader, RowNo::of(6)), true);
-    put(rows, rt, &mut pass, &Call::Put { key: 80, value: 80 })
+    make(rows, rt, &mut pass, &Call::Put { key: 80, value: 80 })
 }
 
 // Begins a write and removes the key, by which the write has its entry, and holds no row.
@@ -312,7 +316,8 @@ fn remove<R: Abort + Wait>(rows: &Rows, rt: &R, pass: &mut Pass, key: Key) -> Op
     ensures free { pass.new.view.holds ≡ [] }
 {
     enter(rows, rt, pass);
-    write(rows, rt, pass, &Call::Remove { key }).expect(rt, "no row is left")
+    let mut way = Way::none();
+    write(rows, rt, pass, &Call::Remove { key }, &mut way).expect(rt, "no row is left")
 }
 
 fn stop_in_unlinking<R: Abort + Wait>(
@@ -483,7 +488,7 @@ fn reads_meet_a_stopped_unlinking_of_the_root(rt: HostRuntime) -> Result<(), Fai
     let mut q = passes.pop().expect(&rt, "no second pass");
     let mut p = passes.pop().expect(&rt, "no first pass");
     let call = Call::Put { key: 1, value: 5 };
-    is(&rt, put(&rows, &rt, &mut p, &call), Ok(None));
+    is(&rt, make(&rows, &rt, &mut p, &call), Ok(None));
     stop_at_root(&rows, &rt, &mut p, &mut q);
     Ok(())
 }

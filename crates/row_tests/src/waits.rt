@@ -1,6 +1,6 @@
 //! Waiting for what another thread does, within a bound.
 ghost use Rattle.std.specs.Prelude.{◌≤◌};
-ghost use Rattle.snap_steps.specs.Seen.{IsOf};
+ghost use Rattle.snap_prelude.specs.{IsOf};
 
 use snap_search::try_get;
 use snap_stamp::{Field, Key, RowNo};

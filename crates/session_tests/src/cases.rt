@@ -1,7 +1,7 @@
 //! Cases as one text: each is a script, `~`, and what is shown of its replies and exports; `|` stands between them. One
 //! loop checks them all, so that a further case costs the proof nothing.
 ghost use Rattle.std.specs.Prelude.{◌≡◌, ◌≢◌, ◌≤◌, AllPairs, IfOk, length};
-ghost use Rattle.snap_service.specs.States.{AreSeated};
+ghost use Rattle.snap_service.specs.Prelude.{AreSeated};
 
 use snap_model::{Command, Name, OutOfMemory, Reply};
 use snap_service::{Kit, Loads, Service, Session};

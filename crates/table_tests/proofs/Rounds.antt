@@ -1,6 +1,6 @@
 -- The uses of a pass over the rounds of a test: nine a round at most.
 use Rattle.std.proofs.Common.{ℕ, ◌+◌, ◌*◌, ◌≤◌, arith}
-use Rattle.snap_steps.specs.Seen.{Known, Laid}
+use Rattle.snap_prelude.specs.{Known, Laid}
 use Rattle.snap_table.specs.Ready.{IsReadyTo}
 
 pub ready_more : (rows : Laid) (who few most : ℕ) (pass : Known) → few ≤ most → IsReadyTo rows who few pass → IsReadyTo rows who most pass

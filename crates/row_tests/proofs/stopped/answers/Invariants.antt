@@ -1,4 +1,4 @@
-use Rattle.snap_steps.specs.Seen.{IsOf}
+use Rattle.snap_prelude.specs.{IsOf}
 use Rattle.row_tests.proofs.stopped.answers.Given as goal
 
 -- the pass is of the table still

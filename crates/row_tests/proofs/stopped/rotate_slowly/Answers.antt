@@ -1,8 +1,7 @@
 use Rattle.std.proofs.Common.{inl}
 use Rattle.snap_shape.proofs.Shaping.{edge_stays, rotates, turn_of, turns_still, by_side, key_on, stamps_on}
 use Rattle.snap_shape.proofs.Touching.{None, loaded}
-use Rattle.snap_stamp.specs.Sides.{other}
-use Rattle.snap_steps.specs.States.{link_field}
+use Rattle.snap_prelude.specs.{link_field, other}
 use Rattle.row_tests.proofs.stopped.rotate_slowly.Goals as goal
 
 pub mark_shrinking-requires-clause-place : goal.mark_shrinking-requires-clause-place

@@ -3,7 +3,7 @@ use Rattle.row_tests.proofs.Entering.{entered_mending}
 use Rattle.row_tests.proofs.Freeing.{holds_turn}
 use Rattle.row_tests.proofs.stopped.turn_beside.Goals as goal
 use Rattle.row_tests.specs.Stopping.{MayTurn}
-use Rattle.snap_steps.specs.Seen.{Known}
+use Rattle.snap_prelude.specs.{Known}
 
 pub take_turn-requires-clause-mending : goal.take_turn-requires-clause-mending
 take_turn-requires-clause-mending g c = entered_mending c.args.pass c.enter.new.pass c.requires.pass.idle c.enter.ensures
