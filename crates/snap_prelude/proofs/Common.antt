@@ -2,11 +2,10 @@
 -- above cite, passed on from one place. Declares nothing.
 pub use Rattle.std.proofs.lemmas.Bool.{cases_order, le-leb, lt-leb}
 pub use Rattle.std.proofs.lemmas.Bool.Decides.{nat_tests}
-pub use Rattle.std.proofs.lemmas.List.{drop_more, get_or-map, get_or-reverse}
-pub use Rattle.std.proofs.lemmas.List.{get_or-set_other, get_or-set_same, get_or-take}
-pub use Rattle.std.proofs.lemmas.List.{get_or_append_left, get_or_read, length-append}
-pub use Rattle.std.proofs.lemmas.List.{length-map, length-set, length-take-le, length_push}
-pub use Rattle.std.proofs.lemmas.List.{map-append, map-set, take_all, take_more}
+pub use Rattle.std.proofs.lemmas.List.{drop_more, get_or-map, get_or-reverse, get_or-set_other, get_or-set_same}
+pub use Rattle.std.proofs.lemmas.List.{get_or-take, get_or_append_left, get_or_read, length-append, length-map}
+pub use Rattle.std.proofs.lemmas.List.{length-set, length-take-le, length_push, map-append, map-set, take_all}
+pub use Rattle.std.proofs.lemmas.List.{take_more}
 pub use Rattle.std.proofs.lemmas.List.Concat.{flat_map-cons}
 pub use Rattle.std.proofs.lemmas.List.Elements.{All-cons, All-nil}
 pub use Rattle.std.proofs.lemmas.Option.{slice_get-get_or, slice_get_past, slice_get_within}

@@ -7,12 +7,12 @@ use Rattle.snap_rule.specs.Tree.{Tree, root, Stands, Between, EachRow}
 use Rattle.snap_stamp.specs.declared.side.Side.{Side}
 use Rattle.snap_stamp.specs.declared.side.Side.TheVariants.{Left, Right}
 use Rattle.snap_rule.specs.Tree.Tree.{empty, node}
-use Rattle.snap_rule.specs.State.{State, In, Reads}
+use Rattle.snap_rule.specs.State.{State, In, Represents}
 use Rattle.snap_stamp.specs.Stamps.{IsUnmarked}
 use Rattle.snap_rule.specs.Evolves.{Evolves, SameRow}
 use Rattle.snap_rule.specs.Quiescence.{QuietOk, IsCalm, CalmOk, word, IsSo}
 use Rattle.snap_rule.specs.declared.quiescence.Load.{Load}
-use Rattle.snap_rule.specs.Rule.{TreeOk, ChangesOk, NoneWrites, Fits}
+use Rattle.snap_rule.specs.Rule.{TreeOk, ChangesOk, NoneWrites, LinkFits}
 use Rattle.snap_rule.proofs.Trees.{reads_same, each_at, each_stands}
 
 pub calm_kept : (s s' : State) (ended low high c : ℕ) (l : List Load) → Evolves s s' → QuietOk s ended l → CalmOk s ended low high c
@@ -35,7 +35,7 @@ calm_kept s s' ended low high c l ev q h e =
 pub calm_begins : (s : State) → TreeOk s → ChangesOk s → NoneWrites s → s.gate / 2 ≡ s.left + s.writers → CalmOk s s.left 0 (2 ^ 64) (s.link 0 Right)
 calm_begins s tree_ok changes_ok none count e =
     let z : s.writers ≡ 0 = omega arith in
-    let same : (n : ℕ) (d : Side) → (n ≡ 0) ⊎ Stands n s.tree → s.link n d ≡ s.links n d = λ n d i. subst (Fits s n d) (none.no_change z n d) (changes_ok.fits n d i) in
+    let same : (n : ℕ) (d : Side) → (n ≡ 0) ⊎ Stands n s.tree → s.link n d ≡ s.links n d = λ n d i. subst (LinkFits s n d) (none.no_change z n d) (changes_ok.fits n d i) in
     record {
       part = s.tree;
       top = sym (same 0 Right (inl refl) ∙ tree_ok.root);
@@ -52,7 +52,7 @@ pub record CalmRow (s : State) (low high c : ℕ) : Type 0 where
   pub on_left : IsCalm s low (s.key c) (s.link c Left)
   pub on_right : IsCalm s (s.key c + 1) high (s.link c Right)
 
-calm_node : (s : State) (low high c : ℕ) (t : Tree) → c ≢ 0 → root t ≡ c → Reads s s.link t → Between low high t
+calm_node : (s : State) (low high c : ℕ) (t : Tree) → c ≢ 0 → root t ≡ c → Represents s s.link t → Between low high t
     → EachRow (λ r. In r s.linked × IsUnmarked (s.stamp r)) t
     → CalmRow s low high c
 calm_node s low high c empty z e r o u = absurd (z (sym e))

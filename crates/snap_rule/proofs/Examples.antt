@@ -11,7 +11,7 @@ use Rattle.snap_rule.specs.State.{In, WasLinked, IsShared}
 use Rattle.snap_stamp.specs.Stamps.{IsUnlinked}
 use Rattle.snap_rule.specs.State.Change.{plain, lowering, raising}
 use Rattle.snap_rule.specs.Position.{IsPlaced}
-use Rattle.snap_rule.specs.Rule.{IsLive, Fits}
+use Rattle.snap_rule.specs.Rule.{IsLive, LinkFits}
 use Rattle.snap_rule.specs.Updates.{relink}
 use Rattle.snap_rule.specs.Examples.{two_rows, turning, after_turn, LeavesWay}
 use Rattle.snap_rule.proofs.Updates.{relink_other}
@@ -46,10 +46,10 @@ leads n Left (inr (inr (inl e))) = subst (λ (x : ℕ). (turning.link x Left ≡
 leads n Right (inr (inr (inl e))) = subst (λ (x : ℕ). (turning.link x Right ≡ 0) ⊎ In (turning.link x Right) turning.linked) (sym e) (inr (inl refl))
 leads n d (inr (inr (inr h))) = absurd h
 
-fits_at : (n m : ℕ) (d : Side) → n ≡ m → Fits turning m d (turning.pending m d) → Fits turning n d (turning.pending n d)
-fits_at n m d e h = subst (λ (x : ℕ). Fits turning x d (turning.pending x d)) (sym e) h
+fits_at : (n m : ℕ) (d : Side) → n ≡ m → LinkFits turning m d (turning.pending m d) → LinkFits turning n d (turning.pending n d)
+fits_at n m d e h = subst (λ (x : ℕ). LinkFits turning x d (turning.pending x d)) (sym e) h
 
-fits : (n : ℕ) (d : Side) → (n ≡ 0) ⊎ (n ≡ 1) ⊎ (n ≡ 2) → Fits turning n d (turning.pending n d)
+fits : (n : ℕ) (d : Side) → (n ≡ 0) ⊎ (n ≡ 1) ⊎ (n ≡ 2) → LinkFits turning n d (turning.pending n d)
 fits n Left (inl e) = fits_at n 0 Left e refl
 fits n Right (inl e) = fits_at n 0 Right e refl
 fits n Left (inr (inl e)) = fits_at n 1 Left e (refl, refl)

@@ -7,7 +7,7 @@ use Rattle.snap_stamp.specs.declared.side.Side.TheVariants.{Left, Right}
 use Rattle.snap_rule.specs.State.{State, Change}
 use Rattle.snap_stamp.specs.Stamps.{IsUnmarked, IsLowering}
 use Rattle.snap_rule.specs.State.Change.{plain, unlinking, lowering, raising}
-use Rattle.snap_rule.specs.Rule.{TreeOk, ChangesOk, IsLive, Fits, IsParent}
+use Rattle.snap_rule.specs.Rule.{TreeOk, ChangesOk, IsLive, LinkFits, IsParent}
 use Rattle.snap_rule.specs.Updates.{relink}
 use Rattle.snap_rule.specs.Kinds.Unlinking.{unlinked_marked, MayMarkUnlinked, only_child, MaySplice}
 use Rattle.snap_rule.specs.Kinds.Rotation.{shrinking_marked, lowered_linked, MayLinkLowered, raised_linked, MayLinkRaised, parent_linked, MayLinkParent, MayClearShrinking}
@@ -56,7 +56,7 @@ lower_doing s parent p row d raised writing changes_ok free h =
     let v : ℕ = s.link raised (other d) in
     let s' : State = lowered_linked s row d raised in
     let live : (n : ℕ) → IsLive s n → IsLive s' n = λ n. live_same s s' n (λ i. i) refl refl in
-    let word : s.link raised (other d) ≡ s.links raised (other d) = subst (Fits s raised (other d)) free (changes_ok.fits raised (other d) (inr t.raised_live.stands)) in (
+    let word : s.link raised (other d) ≡ s.links raised (other d) = subst (LinkFits s raised (other d)) free (changes_ok.fits raised (other d) (inr t.raised_live.stands)) in (
       record { writing = writing; live = t.live; raised_live = t.raised_live; marked = h.marked },
       record {
         turn = record {

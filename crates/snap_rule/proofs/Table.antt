@@ -6,7 +6,7 @@ use Rattle.snap_rule.specs.Tree.{Stands, OnWay, find, value_word}
 use Rattle.snap_stamp.specs.declared.side.Side.{Side}
 use Rattle.snap_stamp.specs.declared.side.Side.TheVariants.{Left}
 use Rattle.snap_rule.specs.State.{State, In, WasLinked, IsShared}
-use Rattle.snap_rule.specs.Rule.{TableOk, IsLive, Fits}
+use Rattle.snap_rule.specs.Rule.{TableOk, IsLive, LinkFits}
 use Rattle.snap_rule.specs.Kinds.Entries.{value_stored, MayStoreValue, leaf_linked, MayLinkLeaf, absent_confirmed, MayConfirmAbsent}
 use Rattle.snap_rule.specs.Kinds.Clones.{cut, MayCut, copy_linked, MayLinkCopy}
 use Rattle.snap_rule.specs.Kinds.Unlinking.{unlinked_marked, MayMarkUnlinked, spliced, MaySplice}
@@ -249,5 +249,5 @@ absent_here s row ok live z = word_none (find s.tree (s.key row)) (ap value_word
 pub absent_below : (s : State) (k n : ℕ) (d : Side) → TableOk s → Faces s n k d → (n ≡ 0) ⊎ OnWay s.tree k n → s.pending n d ≡ plain → s.link n d ≡ 0
     → find s.tree k ≡ None
 absent_below s k n d ok f w q z =
-    let e : s.link n d ≡ s.links n d = subst (Fits s n d) q (ok.changes.fits n d (stands_there s ok.tree ok.links ok.changes k n w)) in
+    let e : s.link n d ≡ s.links n d = subst (LinkFits s n d) q (ok.changes.fits n d (stands_there s ok.tree ok.links ok.changes k n w)) in
     ok.tree.tells k ∙ tree_absent s ok.tree ok.links ok.changes k (s.links n d) (sym e ∙ z) (tree_below s ok.tree ok.links ok.changes k n d f w)

@@ -15,7 +15,7 @@ use Rattle.snap_stamp.specs.Sides.{Toward}
 use Rattle.snap_stamp.specs.declared.side.Side.{Side}
 use Rattle.snap_stamp.specs.declared.side.Side.TheVariants.{Left, Right}
 use Rattle.snap_rule.specs.Tree.Tree.{empty, node}
-use Rattle.snap_rule.specs.State.{State, Reads}
+use Rattle.snap_rule.specs.State.{State, Represents}
 
 -- the subtree of a node on a side
 abbrev pub child : Side → Tree → Tree → Tree
@@ -49,8 +49,8 @@ way_stands (node m a b) k n (inl e) = inl e
 way_stands (node m a b) k n (inr (inl w)) = inr (inl (way_stands a k n w.1))
 way_stands (node m a b) k n (inr (inr w)) = inr (inr (way_stands b k n w.1))
 
-pub reads_child : (s : State) (l : ℕ → Side → ℕ) (d : Side) (m : Node) (a b : Tree) → Reads s l (node m a b)
-    → (l m.row d ≡ root (child d a b)) × Reads s l (child d a b)
+pub reads_child : (s : State) (l : ℕ → Side → ℕ) (d : Side) (m : Node) (a b : Tree) → Represents s l (node m a b)
+    → (l m.row d ≡ root (child d a b)) × Represents s l (child d a b)
 reads_child s l Left m a b h = (h.1, h.3)
 reads_child s l Right m a b h = (h.2, h.4)
 
@@ -63,7 +63,7 @@ each_root P empty h e = absurd (h refl)
 each_root P (node m a b) h e = e.0
 
 -- a tree whose top row is 0 has no key
-pub find_none : (s : State) (l : ℕ → Side → ℕ) (t : Tree) (k : ℕ) → Reads s l t → root t ≡ 0 → find t k ≡ None
+pub find_none : (s : State) (l : ℕ → Side → ℕ) (t : Tree) (k : ℕ) → Represents s l t → root t ≡ 0 → find t k ≡ None
 find_none s l empty k r e = refl
 find_none s l (node m a b) k r e = absurd (omega (arith, r.0.is_row, e))
 
@@ -72,7 +72,7 @@ each_stands P empty f = tt
 each_stands P (node m a b) f = (f m.row (inl refl), each_stands P a (λ n h. f n (inr (inl h))), each_stands P b (λ n h. f n (inr (inr h))))
 
 -- what a search finds is the value of the row that has the key
-pub finds_value : (s : State) (l : ℕ → Side → ℕ) (m : Node) (a b : Tree) (k : ℕ) → Reads s l (node m a b) → s.key m.row ≡ k
+pub finds_value : (s : State) (l : ℕ → Side → ℕ) (m : Node) (a b : Tree) (k : ℕ) → Represents s l (node m a b) → s.key m.row ≡ k
     → s.value m.row ≡ value_word (find (node m a b) k)
 finds_value s l m a b k r e = r.0.value ∙ ap value_word (sym (find_here m a b k (sym r.0.key ∙ e)))
 
@@ -82,7 +82,7 @@ pub record SubtreeAt (s : State) (l : ℕ → Side → ℕ) (t : Tree) (k n : �
   pub on_left : Tree
   pub on_right : Tree
   pub row : top.row ≡ n
-  pub reads : Reads s l (node top on_left on_right)
+  pub reads : Represents s l (node top on_left on_right)
   pub finds : find (node top on_left on_right) k ≡ find t k
   pub stands : (r : ℕ) → Stands r (node top on_left on_right) → Stands r t
   pub way : (r : ℕ) → OnWay (node top on_left on_right) k r → OnWay t k r
@@ -101,7 +101,7 @@ subtree_below s l d m a b k n e u f = record {
   way = λ r w. way_toward d m a b k r e (u.way r w);
 }
 
-pub subtree_at : (s : State) (l : ℕ → Side → ℕ) (t : Tree) (k n : ℕ) → Reads s l t → OnWay t k n → SubtreeAt s l t k n
+pub subtree_at : (s : State) (l : ℕ → Side → ℕ) (t : Tree) (k n : ℕ) → Represents s l t → OnWay t k n → SubtreeAt s l t k n
 subtree_at s l empty k n r w = absurd w
 subtree_at s l (node m a b) k n r (inl e) = record {
   top = m;
@@ -117,9 +117,9 @@ subtree_at s l (node m a b) k n r (inr (inl w)) = subtree_below s l Left m a b k
 subtree_at s l (node m a b) k n r (inr (inr w)) = subtree_below s l Right m a b k n w.0 (subtree_at s l b k n r.4 w.1) (λ q h. inr (inr h))
 
 -- the words of a tree's rows in another state
-pub reads_same : (s s' : State) (l l' : ℕ → Side → ℕ) (t : Tree) → Reads s l t
+pub reads_same : (s s' : State) (l l' : ℕ → Side → ℕ) (t : Tree) → Represents s l t
     → ((n : ℕ) → Stands n t → (s'.key n ≡ s.key n) × (s'.value n ≡ s.value n) × (s'.height n ≡ s.height n) × ((d : Side) → l' n d ≡ l n d))
-    → Reads s' l' t
+    → Represents s' l' t
 reads_same s s' l l' empty r f = tt
 reads_same s s' l l' (node m a b) r f =
     let g = f m.row (inl refl) in (
@@ -136,12 +136,12 @@ each_at P (node m a b) n e (inl q) = rw q e.0
 each_at P (node m a b) n e (inr (inl h)) = each_at P a n e.1 h
 each_at P (node m a b) n e (inr (inr h)) = each_at P b n e.2 h
 
-pub root_empty : (s : State) (l : ℕ → Side → ℕ) (t : Tree) → Reads s l t → root t ≡ 0 → t ≡ empty
+pub root_empty : (s : State) (l : ℕ → Side → ℕ) (t : Tree) → Represents s l t → root t ≡ 0 → t ≡ empty
 root_empty s l empty r e = refl
 root_empty s l (node m a b) r e = absurd (omega (arith, r.0.is_row, e))
 
 -- the keys of a tree's rows are within its bounds
-pub key_between : (s : State) (l : ℕ → Side → ℕ) (low high : ℕ) (t : Tree) (n : ℕ) → Between low high t → Reads s l t → Stands n t
+pub key_between : (s : State) (l : ℕ → Side → ℕ) (low high : ℕ) (t : Tree) (n : ℕ) → Between low high t → Represents s l t → Stands n t
     → (low ≤ s.key n) × (s.key n < high)
 key_between s l low high empty n b r h = absurd h
 key_between s l low high (node m x y) n b r (inl e) = let q : s.key n ≡ m.key = ap s.key e ∙ r.0.key in (omega (arith, b.0), omega (arith, b.1))
@@ -149,13 +149,13 @@ key_between s l low high (node m x y) n b r (inr (inl h)) = let q = key_between 
 key_between s l low high (node m x y) n b r (inr (inr h)) = let q = key_between s l (m.key + 1) high y n b.3 r.4 h in (omega (arith, q.0, b.0), q.1)
 
 -- each row is on the way of its own key
-pub own_way : (s : State) (l : ℕ → Side → ℕ) (low high : ℕ) (t : Tree) (n : ℕ) → Between low high t → Reads s l t → Stands n t → OnWay t (s.key n) n
+pub own_way : (s : State) (l : ℕ → Side → ℕ) (low high : ℕ) (t : Tree) (n : ℕ) → Between low high t → Represents s l t → Stands n t → OnWay t (s.key n) n
 own_way s l low high empty n b r h = absurd h
 own_way s l low high (node m x y) n b r (inl e) = inl e
 own_way s l low high (node m x y) n b r (inr (inl h)) = inr (inl ((key_between s l low m.key x n b.2 r.3 h).1, own_way s l low m.key x n b.2 r.3 h))
 own_way s l low high (node m x y) n b r (inr (inr h)) = let q = key_between s l (m.key + 1) high y n b.3 r.4 h in inr (inr (omega (arith, q.0), own_way s l (m.key + 1) high y n b.3 r.4 h))
 
-pub row_positive : (s : State) (l : ℕ → Side → ℕ) (t : Tree) (n : ℕ) → Reads s l t → Stands n t → 0 < n
+pub row_positive : (s : State) (l : ℕ → Side → ℕ) (t : Tree) (n : ℕ) → Represents s l t → Stands n t → 0 < n
 row_positive s l empty n r h = absurd h
 row_positive s l (node m a b) n r (inl e) = omega (arith, r.0.is_row, e)
 row_positive s l (node m a b) n r (inr (inl h)) = row_positive s l a n r.3 h

@@ -7,7 +7,7 @@ use Rattle.std.specs.Prelude.{List, ℕ, ◌/◌, ◌≡◌, ◌≤◌}
 use Rattle.snap_stamp.specs.Stamps.{IsUnmarked}
 use Rattle.snap_stamp.specs.declared.layout.Field.{Field}
 use Rattle.snap_stamp.specs.declared.layout.Field.TheVariants.{Birth, Height, Key, Left, Lock, Right, Stamp, Value}
-use Rattle.snap_rule.specs.State.{In, Reads, State, WasLinked}
+use Rattle.snap_rule.specs.State.{In, Represents, State, WasLinked}
 use Rattle.snap_rule.specs.Tree.{Between, EachRow, Tree, root}
 use Rattle.snap_rule.specs.declared.quiescence.Load.{Load}
 use Rattle.snap_stamp.specs.declared.side.Side.TheVariants as sides
@@ -36,7 +36,7 @@ pub record QuietOk (s : State) (ended : ℕ) (loads : List Load) : Type 0 where
 pub record IsCalm (s : State) (low high c : ℕ) : Type 0 where
   pub part : Tree
   pub top : root part ≡ c
-  pub reads : Reads s s.link part
+  pub reads : Represents s s.link part
   pub ordered : Between low high part
   pub rows : EachRow (λ r. In r s.linked × IsUnmarked (s.stamp r)) part
 

@@ -6,7 +6,7 @@ use Rattle.snap_model.specs.History.{told}
 use Rattle.snap_stamp.specs.Stamps.{IsShrinking, IsUnlinked, IsUnmarked}
 use Rattle.snap_stamp.specs.declared.side.Side.{Side}
 use Rattle.snap_stamp.specs.declared.side.Side.TheVariants.{Left, Right}
-use Rattle.snap_rule.specs.State.{Change, In, IsShared, Reads, State, WasLinked}
+use Rattle.snap_rule.specs.State.{Change, In, IsShared, Represents, State, WasLinked}
 use Rattle.snap_rule.specs.State.Change.{lowering, plain, raising, unlinking}
 use Rattle.snap_rule.specs.Tree.{Between, Stands, find, root}
 use Rattle.snap_rule.specs.Tree.Tree.{empty}
@@ -24,7 +24,7 @@ IsParent s n d = (n ≡ 0) × (d ≡ Right) ⊎ IsLive s n
 -- links, from the right link of row 0; its keys rise; its rows were linked and aren't unlinked
 pub record TreeOk (s : State) : Type 0 where
   pub tells : (k : ℕ) → find s.tree k ≡ told s.history k
-  pub reads : Reads s s.links s.tree
+  pub reads : Represents s s.links s.tree
   pub root : s.links 0 Right ≡ root s.tree
   pub ordered : Between 0 (2 ^ 64) s.tree
   pub rows : (n : ℕ) → Stands n s.tree → In n s.linked × ¬ IsUnlinked (s.stamp n)
@@ -52,16 +52,16 @@ pub record SharingOk (s : State) : Type 0 where
       → IsShared s (s.link n d)
 
 -- the word of a link, by the change that it is in
-abbrev pub Fits : State → ℕ → Side → Change → Type 0
-Fits s n d plain = s.link n d ≡ s.links n d
-Fits s n d (unlinking c) = (s.link n d ≡ c) × (c ≢ 0) × IsUnlinked (s.stamp c)
-Fits s n d (lowering c) = (s.link n d ≡ c) × IsShrinking (s.stamp n)
-Fits s n d (raising c) = (s.link n d ≡ c) × IsLive s c × IsShrinking (s.stamp c)
+abbrev pub LinkFits : State → ℕ → Side → Change → Type 0
+LinkFits s n d plain = s.link n d ≡ s.links n d
+LinkFits s n d (unlinking c) = (s.link n d ≡ c) × (c ≢ 0) × IsUnlinked (s.stamp c)
+LinkFits s n d (lowering c) = (s.link n d ≡ c) × IsShrinking (s.stamp n)
+LinkFits s n d (raising c) = (s.link n d ≡ c) × IsLive s c × IsShrinking (s.stamp c)
 
 -- each link of row 0 and of the tree's rows is as its change says, and only row 0 and live rows are
 -- in a change
 pub record ChangesOk (s : State) : Type 0 where
-  pub fits : (n : ℕ) (d : Side) → (n ≡ 0) ⊎ Stands n s.tree → Fits s n d (s.pending n d)
+  pub fits : (n : ℕ) (d : Side) → (n ≡ 0) ⊎ Stands n s.tree → LinkFits s n d (s.pending n d)
   pub live : (n : ℕ) (d : Side) → s.pending n d ≢ plain → (n ≡ 0) ⊎ IsLive s n
 
 -- the writes entered are those ended and those in progress

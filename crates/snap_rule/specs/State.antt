@@ -73,13 +73,14 @@ pub record Says (s : State) (n : Node) : Type 0 where
   pub height : s.height n.row ≡ n.height
 
 -- the tree is read from the words of its rows, by these links
-abbrev pub Reads : State → (ℕ → Side → ℕ) → Tree → Type 0
-Reads s l empty = Unit {0}
-Reads s l (node n a b) =
-    Says s n × (l n.row Left ≡ root a) × (l n.row Right ≡ root b) × Reads s l a × Reads s l b
+abbrev pub Represents : State → (ℕ → Side → ℕ) → Tree → Type 0
+Represents s l empty = Unit {0}
+Represents s l (node n a b) =
+    Says s n × (l n.row Left ≡ root a) × (l n.row Right ≡ root b)
+    × Represents s l a × Represents s l b
 
 -- the image of a shared row: the tree that is read from it, of shared rows alone
 pub record IsImage (s : State) (n : ℕ) (t : Tree) : Type 0 where
   pub top : root t ≡ n
-  pub reads : Reads s s.link t
+  pub reads : Represents s s.link t
   pub rows : EachRow (λ r. In r s.linked × IsShared s r) t

@@ -3,7 +3,7 @@ use Rattle.std.proofs.Common.{◌≡◌, ℕ, suc, ◌+◌, ◌*◌, arith, List
 use Rattle.snap_stamp.specs.Layout.{place_of, word_at}
 use Rattle.snap_stamp.specs.declared.layout.Field.{Field}
 use Rattle.snap_stamp.specs.declared.layout.Field.TheVariants.{Key, Birth, Stamp, Lock, Height, Left, Right, Value}
-use Rattle.snap_steps.specs.Memory.{Row, words_of_rows, field, row, with_field, Memory, words_of, empty_row}
+use Rattle.snap_steps.specs.Memory.{Row, words_of_rows, field, row, with_field, Memory, memory_words, empty_row}
 use Rattle.snap_steps.specs.Rule.Words.{IsMemory}
 use Rattle.snap_steps.specs.declared.rule.About.{About}
 
@@ -49,11 +49,11 @@ changed rows r f n = set rows r (with_field f n (row rows r))
 
 module _ {about : About} {words : List ℕ} {m : Memory} (k : IsMemory about words m) (r : ℕ) (f : Field) (l : r ≤ about.rows) where
   pub cell_is : get_or words (word_at r f) 0 ≡ field f (row m.rows r)
-  cell_is = let wide = k.wide in ap (λ (ws : List ℕ). get_or ws (word_at r f) 0) k.words_are ∙ ap (λ (i : ℕ). get_or (words_of m) i 0) (past_header r f) ∙ row_word m.rows r f (omega arith)
+  cell_is = let wide = k.wide in ap (λ (ws : List ℕ). get_or ws (word_at r f) 0) k.words_are ∙ ap (λ (i : ℕ). get_or (memory_words m) i 0) (past_header r f) ∙ row_word m.rows r f (omega arith)
 
   pub cell_set : (n : ℕ) → IsMemory about (set words (word_at r f) n) (record m { rows = changed m.rows r f n })
   cell_set n = let wide = k.wide in record {
-    words_are = ap (λ (ws : List ℕ). set ws (word_at r f) n) k.words_are ∙ ap (λ (i : ℕ). set (words_of m) i n) (past_header r f)
+    words_are = ap (λ (ws : List ℕ). set ws (word_at r f) n) k.words_are ∙ ap (λ (i : ℕ). set (memory_words m) i n) (past_header r f)
         ∙ ap (λ (ws : List ℕ). m.next ∷ m.gate ∷ m.left ∷ m.done ∷ m.epoch ∷ 0 ∷ 0 ∷ 0 ∷ ws) (row_set m.rows r f n (omega arith));
     wide = length-set m.rows r (with_field f n (row m.rows r)) ∙ k.wide;
     few_rows = k.few_rows;

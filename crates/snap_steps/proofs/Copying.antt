@@ -5,7 +5,7 @@ use Rattle.snap_rule.specs.Tree.{Tree, Node, Stands, value_of}
 use Rattle.snap_rule.specs.Tree.Tree.{empty, node}
 use Rattle.snap_stamp.specs.declared.layout.Field.{Field}
 use Rattle.snap_stamp.specs.declared.layout.Field.TheVariants.{Key, Height, Left, Right, Value}
-use Rattle.snap_steps.specs.Clones.{Cloned, image, IsWithin, IsLink, FitsLink, TellsWord}
+use Rattle.snap_steps.specs.Clones.{Cloned, image, IsSubtree, IsLink, FitsLink, TellsWord}
 use Rattle.snap_steps.specs.Copies.{CopiesRow}
 use Rattle.snap_steps.specs.Steps.Told.{Sat}
 use Rattle.snap_steps.proofs.Classes.Entering.{value_is}
@@ -15,7 +15,7 @@ pub record NodeAt (t : Tree) (r : ℕ) : Type 0 where
   pub top : Node
   pub left : Tree
   pub right : Tree
-  pub within : IsWithin (node top left right) t
+  pub within : IsSubtree (node top left right) t
   pub is : top.row ≡ r
 
 pub node_at : (t : Tree) (r : ℕ) → Stands r t → NodeAt t r

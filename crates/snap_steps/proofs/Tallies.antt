@@ -1,17 +1,17 @@
 -- What a pass keeps of its debt tells of the debt after each step.
-use Rattle.std.proofs.Common.{◌≡◌, ◌≢◌, ◌⊎◌, ⊎_elim, inl, inr, ℕ, zero, suc, List, [], ◌∷◌, Option, None, Some, refl, ap, sym, ◌∙◌, subst, arith, eq-eqb, ne_eqb}
+use Rattle.std.proofs.Common.{◌≡◌, ◌≢◌, ◌⊎◌, ⊎_elim, inl, inr, ℕ, zero, suc, List, [], ◌∷◌, Option, None, Some, refl, ap, sym, ◌∙◌, subst, arith}
 use native.Mathlib.Decide.{ℕ_discrete}
 use mathlib.Core.Logic.{dite}
 use Rattle.snap_rule.proofs.Debts.{taken_back}
-use Rattle.snap_rule.specs.Debt.{IsListed, mark, no_debt}
+use Rattle.snap_rule.specs.Debt.{mark, no_debt}
 use Rattle.snap_rule.specs.Debt.Lists.{or_else, taken}
 use Rattle.snap_rule.specs.declared.debt.Debt.{Debt}
 use Rattle.snap_rule.specs.declared.debt.Mark.{Mark}
 use Rattle.snap_stamp.specs.declared.layout.Field.TheVariants.{Stamp}
 use Rattle.snap_steps.specs.Facts.{word_in}
-use Rattle.snap_steps.specs.Owed.{Covers, IsWith, ListsOnly, Names, TellsDebt, after_value, less, nothing_owed, one_more_row, owed_at, owed_one}
+use Rattle.snap_steps.specs.Owed.{NamesEach, IsWith, IsWithout, ListsOnly, Names, TellsDebt, after_value, nothing_owed, owed_at, owed_one}
 use Rattle.snap_steps.specs.Steps.Debts.{aimed_at, listing}
-use Rattle.snap_steps.specs.Steps.Writes.{leaf_debt, value_debt}
+use Rattle.snap_steps.specs.Steps.Writes.{leaf_debt_in, value_debt}
 use Rattle.snap_steps.specs.declared.owed.Listed.{Listed}
 use Rattle.snap_steps.specs.declared.owed.Listed.TheVariants.{Empty, One, Two, Three, Many}
 use Rattle.snap_steps.specs.declared.owed.Tally.{Tally}
@@ -25,62 +25,31 @@ names_or (Two a b) n = dite (ℕ_discrete n a) (λ e. inl (inl e)) (λ e. dite (
 names_or (Three a b c) n = dite (ℕ_discrete n a) (λ e. inl (inl e)) (λ e. dite (ℕ_discrete n b) (λ f. inl (inr (inl f))) (λ f. dite (ℕ_discrete n c) (λ g. inl (inr (inr g))) (λ g. inr (λ h. ⊎_elim e (λ y. ⊎_elim f g y) h))))
 names_or Many n = inl tt
 
-more_names : (o : Listed) (r : ℕ) → Names (one_more_row o r) r
-more_names Empty r = refl
-more_names (One a) r = inr refl
-more_names (Two a b) r = inr (inr refl)
-more_names (Three a b c) r = tt
-more_names Many r = tt
-
-more_keeps : (o : Listed) (r n : ℕ) → Names o n → Names (one_more_row o r) n
-more_keeps Empty r n h = absurd h
-more_keeps (One a) r n h = inl h
-more_keeps (Two a b) r n h = ⊎_elim (λ e. inl e) (λ e. inr (inl e)) h
-more_keeps (Three a b c) r n h = tt
-more_keeps Many r n h = tt
-
 with_names : (o o' : Listed) (r : ℕ) → IsWith o r o' → r ≢ 0 → Names o' r
-with_names o o' r is z = ⊎_elim (λ h. subst (λ w. Names w r) (sym (is.had (inr h))) h) (λ h. subst (λ w. Names w r) (sym (is.more z h)) (more_names o r)) (names_or o r)
+with_names o o' r is z = ⊎_elim (λ h. subst (λ w. Names w r) (sym (is.had (inr h))) h) (λ h. ((is.more z h).names r).1 (inr (inl refl))) (names_or o r)
 
 with_keeps : (o o' : Listed) (r n : ℕ) → IsWith o r o' → Names o n → Names o' n
 with_keeps o o' r n is h = dite (ℕ_discrete r 0)
     (λ z. subst (λ w. Names w n) (sym (is.had (inl z))) h)
-    (λ z. ⊎_elim (λ a. subst (λ w. Names w n) (sym (is.had (inr a))) h) (λ a. subst (λ w. Names w n) (sym (is.more z a)) (more_keeps o r n h)) (names_or o r))
+    (λ z. ⊎_elim (λ a. subst (λ w. Names w n) (sym (is.had (inr a))) h) (λ a. ((is.more z a).names n).1 (inl h)) (names_or o r))
 
 -- a row is listed too
-pub with_covers : (o o' : Listed) (r x : ℕ) (l : List Mark) → IsWith o r o' → Covers o l → Covers o' (listing r x l)
+pub with_covers : (o o' : Listed) (r x : ℕ) (l : List Mark) → IsWith o r o' → NamesEach o l → NamesEach o' (listing r x l)
 with_covers o o' zero x l is all = λ n y h. with_keeps o o' zero n is (all n y h)
 with_covers o o' (suc r) x l is all = λ n y h. ⊎_elim
     (λ q. let e : n ≡ suc r = ap (λ (m : Mark). m.row) q in subst (λ z. Names o' z) (sym e) (with_names o o' (suc r) is (λ z. omega (arith, z))))
     (λ q. with_keeps o o' (suc r) n is (all n y q)) h
 
 -- a row is listed no more
-less_names : (o : Listed) (r n : ℕ) → n ≢ r → Names o n → Names (less o r) n
-less_names Empty r n ne h = absurd h
-less_names (One a) r n ne h = dite (ℕ_discrete a r) (λ e. absurd (ne (h ∙ e))) (λ e. rw (ne_eqb a r e) h)
-less_names (Two a b) r n ne h = dite (ℕ_discrete a r)
-    (λ e. rw (eq-eqb a r e) (⊎_elim (λ q. absurd (ne (q ∙ e))) (λ q. q) h))
-    (λ e. rw (ne_eqb a r e) (dite (ℕ_discrete b r)
-    (λ f. rw (eq-eqb b r f) (⊎_elim (λ q. q) (λ q. absurd (ne (q ∙ f))) h))
-    (λ f. rw (ne_eqb b r f) h)))
-less_names (Three a b c) r n ne h = dite (ℕ_discrete a r)
-    (λ e. rw (eq-eqb a r e) (⊎_elim (λ q. absurd (ne (q ∙ e))) (λ q. q) h))
-    (λ e. rw (ne_eqb a r e) (dite (ℕ_discrete b r)
-    (λ f. rw (eq-eqb b r f) (⊎_elim (λ q. inl q) (λ q. ⊎_elim (λ y. absurd (ne (y ∙ f))) (λ y. inr y) q) h))
-    (λ f. rw (ne_eqb b r f) (dite (ℕ_discrete c r)
-    (λ g. rw (eq-eqb c r g) (⊎_elim (λ q. inl q) (λ q. ⊎_elim (λ y. inr y) (λ y. absurd (ne (y ∙ g))) q) h))
-    (λ g. rw (ne_eqb c r g) h)))))
-less_names Many r n ne h = tt
-
-pub less_covers : (o : Listed) (r : ℕ) (l : List Mark) → Covers o l → Covers (less o r) (taken r l)
-less_covers o r l all = λ n y h. let b = taken_back r l n y h in less_names o r n b.0 (all n y b.1)
+pub without_covers : (o o' : Listed) (r : ℕ) (l : List Mark) → IsWithout o r o' → NamesEach o l → NamesEach o' (taken r l)
+without_covers o o' r l is all = λ n y h. let b = taken_back r l n y h in (is.names n).1 (inl (all n y b.1, b.0))
 
 -- nothing is owed
 pub tells_none : TellsDebt nothing_owed no_debt
 tells_none = record { to_do_is = refl; keyless = λ e. refl; rows = λ n x h. absurd h }
 
 -- there is a to-do key
-pub tells_key : (t : Tally) (u : Debt) (key : ℕ) → t.to_do ≡ Some key → u.to_do ≡ Some key → Covers t.listed u.list → TellsDebt t u
+pub tells_key : (t : Tally) (u : Debt) (key : ℕ) → t.to_do ≡ Some key → u.to_do ≡ Some key → NamesEach t.listed u.list → TellsDebt t u
 tells_key t u key a b all = record { to_do_is = a ∙ sym b; keyless = λ none. let q : Some key ≡ None = sym a ∙ none in absurd (cc); rows = all }
 
 -- one row is owed
@@ -89,8 +58,8 @@ one_owed key zero x = tells_key (owed_one key zero) (record { to_do = Some key; 
 one_owed key (suc r) x = tells_key (owed_one key (suc r)) (record { to_do = Some key; list = mark (suc r) x ∷ []; turning = None }) key refl refl
     (λ n y h. ⊎_elim (λ q. ap (λ (m : Mark). m.row) q) (λ q. absurd q) h)
 
-pub tells_leaf : (v : View) (t : Tally) (a key row below : ℕ) → a ≡ key → row ≡ below → t ≡ owed_one a row → TellsDebt t (leaf_debt v key below)
-tells_leaf v t a key row below same rows is = subst (λ w. TellsDebt w (leaf_debt v key below)) (sym (is ∙ (λ i. owed_one (same i) (rows i)))) (one_owed key below (word_in v.words.knows below Stamp))
+pub tells_leaf : (v : View) (t : Tally) (a key row below : ℕ) → a ≡ key → row ≡ below → t ≡ owed_one a row → TellsDebt t (leaf_debt_in v key below)
+tells_leaf v t a key row below same rows is = subst (λ w. TellsDebt w (leaf_debt_in v key below)) (sym (is ∙ (λ i. owed_one (same i) (rows i)))) (one_owed key below (word_in v.words.knows below Stamp))
 
 -- a value word was stored
 pub tells_value : (v : View) (o t : Tally) (a key row n : ℕ) → a ≡ key → t ≡ after_value o a row n → TellsDebt o v.debt → TellsDebt t (value_debt v key row n)
@@ -98,7 +67,7 @@ tells_value v o t a key row zero same is old = tells_leaf v t a key row row same
 tells_value v o t a key row (suc n) same is old = subst (λ w. TellsDebt w v.debt) (sym is) old
 
 -- the to-do key has come to be that of a row
-pub tells_aimed : (t : Tally) (n m key key' : ℕ) (o : Listed) (l : List Mark) → n ≡ m → key ≡ key' → t ≡ owed_at n key o → Covers o l → TellsDebt t (aimed_at m key' l)
+pub tells_aimed : (t : Tally) (n m key key' : ℕ) (o : Listed) (l : List Mark) → n ≡ m → key ≡ key' → t ≡ owed_at n key o → NamesEach o l → TellsDebt t (aimed_at m key' l)
 tells_aimed t n m key key' o l rows same is all = subst (λ w. TellsDebt w (aimed_at m key' l)) (sym (is ∙ (λ i. owed_at (rows i) (same i) o))) (at m)
   where
     at : (m : ℕ) → TellsDebt (owed_at m key' o) (aimed_at m key' l)
@@ -128,6 +97,6 @@ tells_stay o u o' row x turning lists old = record {
 }
 
 -- who names one row at most lists no other
-pub lists_only : (o : Listed) (r : ℕ) (l : List Mark) → (o ≡ Empty) ⊎ (o ≡ One r) → Covers o l → ListsOnly r l
+pub lists_only : (o : Listed) (r : ℕ) (l : List Mark) → (o ≡ Empty) ⊎ (o ≡ One r) → NamesEach o l → ListsOnly r l
 lists_only o r l (inl e) all = λ n x h. absurd (subst (λ w. Names w n) e (all n x h))
 lists_only o r l (inr e) all = λ n x h. subst (λ w. Names w n) e (all n x h)

@@ -96,9 +96,9 @@ pub record IsNotedSince (v : View) (next : ℕ) : Type 0 where
   pub since : v.base.noted ≤ length before
 
 -- u is the tree t, or stands below its top
-abbrev pub IsWithin : Tree → Tree → Type 0
-IsWithin u empty = u ≡ empty
-IsWithin u (node n a b) = (u ≡ node n a b) ⊎ IsWithin u a ⊎ IsWithin u b
+abbrev pub IsSubtree : Tree → Tree → Type 0
+IsSubtree u empty = u ≡ empty
+IsSubtree u (node n a b) = (u ≡ node n a b) ⊎ IsSubtree u a ⊎ IsSubtree u b
 
 -- the word that the row of this node has in the field; of birth, stamp and lock nothing is said
 abbrev pub NodeHas : Node → Tree → Tree → Field → ℕ → Type 0
@@ -128,5 +128,5 @@ FitsLink rows Value x = Unit {0}
 
 -- the word is that of the tree's node of this row
 abbrev pub TellsWord : ℕ → Tree → ℕ → Field → ℕ → Type 0
-TellsWord rows t row f x = (n : Node) (a b : Tree) → IsWithin (node n a b) t → n.row ≡ row
+TellsWord rows t row f x = (n : Node) (a b : Tree) → IsSubtree (node n a b) t → n.row ≡ row
     → NodeHas n a b f x × FitsLink rows f x

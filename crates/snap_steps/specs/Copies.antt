@@ -1,14 +1,14 @@
 -- What a clone's seat answers of a row, and what a pass knows once the seat was given back to it.
-use Rattle.std.specs.Prelude.{◌≡◌, ◌||◌, ℕ, max, List}
+use Rattle.std.specs.Prelude.{◌≡◌, ◌||◌, ℕ, List}
 use Rattle.snap_model.specs.History.{Begins}
 use Rattle.snap_model.specs.declared.call.Entry.{Entry}
-use Rattle.snap_rule.specs.declared.reader.Reading.TheVariants.{Resting}
 use Rattle.snap_rule.specs.Tree.{Tree, Node, root}
 use Rattle.snap_rule.specs.Tree.Tree.{node}
 use Rattle.snap_stamp.specs.declared.layout.Field.TheVariants.{Stamp}
 use Rattle.snap_steps.specs.Steps.Fields.{is_last}
 use Rattle.snap_steps.specs.Steps.Clones.{found_out}
-use Rattle.snap_steps.specs.Clones.{IsWithin, Cloned}
+use Rattle.snap_steps.specs.Steps.Seats.{taught}
+use Rattle.snap_steps.specs.Clones.{IsSubtree, Cloned}
 use Rattle.snap_steps.specs.Histories.{Extends}
 use Rattle.snap_steps.specs.Seen.{Laid, Known, Becomes}
 use Rattle.snap_steps.specs.declared.clones.RowCopy.{RowCopy}
@@ -40,20 +40,9 @@ abbrev pub with_stamp : Cloned → (row stamp : ℕ) → Cloned
 with_stamp c row stamp =
     record c { worn = c.worn || is_last Stamp stamp; outworn = found_out row stamp c.outworn }
 
--- a pass that has come to know what a clone's seat had seen and noted, where this is what the two
--- have seen together
+-- a pass that has come to know what a clone's seat had seen and noted
 abbrev pub took_back : View → Cloned → List Entry → View
-took_back v c seen =
-    record v {
-      seen = seen;
-      way = record v.way { reads = Resting };
-      noted =
-          record v.noted {
-            handed = max v.noted.handed c.handed;
-            epochs = max v.noted.epochs c.epochs;
-            worn = v.noted.worn || c.worn;
-          };
-    }
+took_back v c seen = taught v c.handed c.epochs c.worn seen
 
 -- the seat was given back to the pass. What the pass has seen stays, if the clone's base begins it
 pub record TakesBack (old new : Known) (clone : Cloned) : Type 0 where
@@ -74,4 +63,4 @@ pub record IsCopyOf (n : Node) (a b : Tree) (copy : RowCopy) : Type 0 where
 -- the copy is of the tree's node of this row
 abbrev pub CopiesRow : Tree → ℕ → RowCopy → Type 0
 CopiesRow t row copy =
-    (n : Node) (a b : Tree) → IsWithin (node n a b) t → n.row ≡ row → IsCopyOf n a b copy
+    (n : Node) (a b : Tree) → IsSubtree (node n a b) t → n.row ≡ row → IsCopyOf n a b copy

@@ -42,8 +42,8 @@ words_of_rows [] = []
 words_of_rows (r ∷ rs) =
     r.key ∷ r.birth ∷ r.stamp ∷ r.lock ∷ r.height ∷ r.left ∷ r.right ∷ r.value ∷ words_of_rows rs
 
-abbrev pub words_of : Memory → List ℕ
-words_of m = m.next ∷ m.gate ∷ m.left ∷ m.done ∷ m.epoch ∷ 0 ∷ 0 ∷ 0 ∷ words_of_rows m.rows
+abbrev pub memory_words : Memory → List ℕ
+memory_words m = m.next ∷ m.gate ∷ m.left ∷ m.done ∷ m.epoch ∷ 0 ∷ 0 ∷ 0 ∷ words_of_rows m.rows
 
 abbrev pub field : Field → Row → ℕ
 field Key r = r.key

@@ -1,5 +1,5 @@
 -- What a pass keeps of its debt beside its seat: the to-do key, and which rows are listed.
-use Rattle.std.specs.Prelude.{◌≡◌, ◌≢◌, ◌⊎◌, ◌==◌, ℕ, zero, suc, List, None, Some, if◌then◌else◌}
+use Rattle.std.specs.Prelude.{◌≡◌, ◌≢◌, ◌⊎◌, ◌↔◌, ◌≤◌, ◌<◌, ◌+◌, ℕ, zero, suc, List, None, Some}
 use Rattle.snap_rule.specs.Debt.{IsListed, no_debt}
 use Rattle.snap_rule.specs.declared.debt.Debt.{Debt}
 use Rattle.snap_rule.specs.declared.debt.Mark.{Mark}
@@ -15,27 +15,30 @@ Names (Two a b) n = (n ≡ a) ⊎ (n ≡ b)
 Names (Three a b c) n = (n ≡ a) ⊎ (n ≡ b) ⊎ (n ≡ c)
 Names Many n = Unit {0}
 
--- one place more
-abbrev pub one_more_row : Listed → ℕ → Listed
-one_more_row Empty r = One r
-one_more_row (One a) r = Two a r
-one_more_row (Two a b) r = Three a b r
-one_more_row (Three a b c) r = Many
-one_more_row Many r = Many
+-- how many places the rows take. Rows that aren't told take one more than there are
+abbrev pub places : Listed → ℕ
+places Empty = 0
+places (One a) = 1
+places (Two a b) = 2
+places (Three a b c) = 3
+places Many = 4
 
--- the row is listed too. Row 0 never is
+-- beside the rows that were named just this one is, in one place; where there is none, all may be
+pub record IsMore (old : Listed) (r : ℕ) (new : Listed) : Type 0 where
+  pub names : (n : ℕ) → Names new n ↔ (Names old n ⊎ (n ≡ r) ⊎ (new ≡ Many))
+  pub few : places new ≤ places old + 1
+
+-- the row is listed too, once. Row 0 never is
 pub record IsWith (old : Listed) (r : ℕ) (new : Listed) : Type 0 where
   pub had : (r ≡ 0) ⊎ Names old r → new ≡ old
-  pub more : r ≢ 0 → (Names old r → ⊥) → new ≡ one_more_row old r
+  pub more : r ≢ 0 → (Names old r → ⊥) → IsMore old r new
 
--- the row is listed no more
-abbrev pub less : Listed → ℕ → Listed
-less Empty r = Empty
-less (One a) r = if a == r then Empty else One a
-less (Two a b) r = if a == r then One b else (if b == r then One a else Two a b)
-less (Three a b c) r = if a == r then Two b c
-    else (if b == r then Two a c else (if c == r then Two a b else Three a b c))
-less Many r = Many
+-- just the other rows are still listed, in no more places, and the row's is free. Where rows aren't
+-- told, this one may be listed still
+pub record IsWithout (old : Listed) (r : ℕ) (new : Listed) : Type 0 where
+  pub names : (n : ℕ) → Names new n ↔ ((Names old n × (n ≢ r)) ⊎ (old ≡ Many))
+  pub few : places new ≤ places old
+  pub free : Names old r → (places new < places old) ⊎ (old ≡ Many)
 
 abbrev pub nothing_owed : Tally
 nothing_owed = record { to_do = None; listed = Empty }
@@ -56,14 +59,14 @@ owed_at zero key o = nothing_owed
 owed_at (suc n) key o = record { to_do = Some key; listed = o }
 
 -- each row of the list is named
-abbrev pub Covers : Listed → List Mark → Type 0
-Covers o l = (n x : ℕ) → IsListed n x l → Names o n
+abbrev pub NamesEach : Listed → List Mark → Type 0
+NamesEach o l = (n x : ℕ) → IsListed n x l → Names o n
 
 -- what is kept tells of the debt: its to-do key, without which it is none; and each row of its list
 pub record TellsDebt (t : Tally) (u : Debt) : Type 0 where
   pub to_do_is : t.to_do ≡ u.to_do
   pub keyless : t.to_do ≡ None → u ≡ no_debt
-  pub rows : Covers t.listed u.list
+  pub rows : NamesEach t.listed u.list
 
 -- no other row is listed
 abbrev pub ListsOnly : ℕ → List Mark → Type 0

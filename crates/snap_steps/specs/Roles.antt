@@ -39,8 +39,8 @@ own_number Spent who = []
 abbrev pub no_base : Base
 no_base = record { history = []; parts = []; noted = 0; drawn = 0; balance = Settled }
 
-abbrev pub blank : ℕ → ℕ → Role → ℕ → View
-blank rows passes role who =
+abbrev pub blank_view : ℕ → ℕ → Role → ℕ → View
+blank_view rows passes role who =
     record {
       rows = rows;
       passes = passes;
@@ -71,7 +71,7 @@ blank rows passes role who =
 -- a seat that counts nowhere, and knows this
 abbrev pub silent : ℕ → ℕ → List Entry → ℕ → ℕ → Bool → Base → List ℕ → View
 silent rows passes seen handed epochs worn base outworn =
-    let v : View = blank rows passes Noting 0 in
+    let v : View = blank_view rows passes Noting 0 in
     record v {
       seen = seen;
       noted = record v.noted { handed = handed; epochs = epochs; worn = worn };
@@ -80,11 +80,11 @@ silent rows passes seen handed epochs worn base outworn =
     }
 
 abbrev pub opener : ℕ → ℕ → ℕ → View
-opener rows passes who = blank rows passes Opening who
+opener rows passes who = blank_view rows passes Opening who
 
 abbrev pub newcomer : ℕ → ℕ → ℕ → View
-newcomer rows passes who = blank rows passes Passing who
+newcomer rows passes who = blank_view rows passes Passing who
 
 -- a seat that was joined to another
 abbrev pub gone : View
-gone = blank 0 0 Spent 0
+gone = blank_view 0 0 Spent 0

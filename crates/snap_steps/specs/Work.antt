@@ -1,6 +1,6 @@
 -- What work changes of the parts of a view. Of a part as it was and as it is now, these take the
--- latter, with some of its fields as they were: so the crates above say what a call leaves of a
--- part, and a part can get a field more. Then what all work keeps.
+-- former, with the fields that a call may change as they are now: so a field that a part gets later
+-- stays as it was, until it is named here. Then what all work keeps.
 use Rattle.std.specs.Prelude.{◌≡◌, ◌⊎◌, ℕ, ◌≤◌, List, ◌++◌, true}
 use Rattle.snap_stamp.specs.declared.layout.Field.{Field}
 use Rattle.snap_steps.specs.Counting.{times, Among}
@@ -18,39 +18,39 @@ use Rattle.snap_steps.specs.declared.view.Words.{Words}
 
 -- without a note more
 abbrev pub no_more_notes : Noted → Noted → Noted
-no_more_notes v w = record w { notes = v.notes; handed = v.handed; epochs = v.epochs }
+no_more_notes v w = record v { worn = w.worn }
 
 -- with notes more, but none of epochs, and no stamp was found at its end
 abbrev pub no_more_epochs : Noted → Noted → Noted
-no_more_epochs v w = record w { epochs = v.epochs; worn = v.worn }
+no_more_epochs v w = record v { notes = w.notes; handed = w.handed }
 
 -- at another point, with the same row confirmed and the same place
 abbrev pub same_end : Route → Route → Route
-same_end v w = record w { confirmed = v.confirmed; place = v.place }
+same_end v w = record v { reads = w.reads }
 
 -- without a row more that was reached
 abbrev pub no_more_reached : Trail → Trail → Trail
-no_more_reached v w = record w { reached = v.reached }
+no_more_reached v w = record v { steps = w.steps }
 
 -- with other words of held rows, and none more that stay for good
 abbrev pub held_words : Words → Words → Words
-held_words v w = record w { lasting = v.lasting; present = v.present }
+held_words v w = record v { knows = w.knows; refused = w.refused }
 
 -- with other words of rows, and the epochs that were loaded before
 abbrev pub same_present : Words → Words → Words
-same_present v w = record w { present = v.present }
+same_present v w = record v { knows = w.knows; refused = w.refused; lasting = w.lasting }
 
 -- with no word more of any row
 abbrev pub no_more_words : Words → Words → Words
-no_more_words v w = record w { knows = v.knows; refused = v.refused; lasting = v.lasting }
+no_more_words v w = record v { present = w.present }
 
 -- with other words in the same rows
 abbrev pub same_rows : Fresh → Fresh → Fresh
-same_rows v w = record w { own = v.own; copies = v.copies }
+same_rows v w = record v { wrote = w.wrote }
 
 -- with other rows, and copies for no other key
 abbrev pub same_copies : Fresh → Fresh → Fresh
-same_copies v w = record w { copies = v.copies }
+same_copies v w = record v { own = w.own; wrote = w.wrote }
 
 -- with these notes more, and a stamp that was found at its greatest count isn't forgotten
 pub record HasNoted (v w : Noted) (more : List WordNote) : Type 0 where

@@ -6,7 +6,7 @@ ghost use Rattle.snap_steps.specs.Histories.{Enters};
 ghost use Rattle.snap_steps.specs.Rule.Epochs.{AllAre};
 ghost use Rattle.snap_steps.specs.Seen.{IsOf, Becomes};
 ghost use Rattle.snap_steps.specs.States.{link_field};
-ghost use Rattle.snap_steps.specs.Steps.Writes.{entry, made_entry, IsPlace, absent_confirmed};
+ghost use Rattle.snap_steps.specs.Steps.Writes.{entry_of, made_entry, IsLeafPlace, ConfirmsAbsent};
 ghost use Rattle.snap_steps.specs.declared.view.Stage.TheVariants.{Writing};
 
 use crate::fields::index_of;
@@ -23,7 +23,7 @@ struct ConfirmBelow<J> {
 }
 
 impl<J: Saying> Play<(), View> for ConfirmBelow<J> {
-    ghost then = { absent_confirmed J.key };
+    ghost then = { ConfirmsAbsent J.key };
 }
 
 fn confirm_below_keyed<J: Saying>(rows: &Rows, pass: &mut Pass, row: RowNo, field: Field, key: Key)
@@ -31,12 +31,12 @@ fn confirm_below_keyed<J: Saying>(rows: &Rows, pass: &mut Pass, row: RowNo, fiel
     requires table { IsOf pass.old rows.now }
     requires row { row ≤ rows.now.rows }
     requires writing { pass.old.view.stage ≡ Writing false false }
-    requires place { IsPlace pass.old.view J.key row field }
+    requires place { IsLeafPlace pass.old.view J.key row field }
     requires copies { AllAre J.key pass.old.view.fresh.copies }
     requires whole { pass.old.view.doing ≡ Nothing }
-    ensures { (log : _) × Enters pass.old.view log (entry pass.old.view.who (Remove J.key) None)
+    ensures { (log : _) × Enters pass.old.view log (entry_of pass.old.view.who (Remove J.key) None)
         × Becomes pass.old pass.new
-        (made_entry pass.old.view log (entry pass.old.view.who (Remove J.key) None)) }
+        (made_entry pass.old.view log (entry_of pass.old.view.who (Remove J.key) None)) }
 {
     let _key = key;
     let word = index_of(row, field);
@@ -51,12 +51,12 @@ pub fn confirm_absent_below(rows: &Rows, pass: &mut Pass, row: RowNo, side: Side
     requires table { IsOf pass.old rows.now }
     requires row { row ≤ rows.now.rows }
     requires writing { pass.old.view.stage ≡ Writing false false }
-    requires place { IsPlace pass.old.view key row (link_field side) }
+    requires place { IsLeafPlace pass.old.view key row (link_field side) }
     requires copies { AllAre key pass.old.view.fresh.copies }
     requires whole { pass.old.view.doing ≡ Nothing }
-    ensures { (log : _) × Enters pass.old.view log (entry pass.old.view.who (Remove key) None)
+    ensures { (log : _) × Enters pass.old.view log (entry_of pass.old.view.who (Remove key) None)
         × Becomes pass.old pass.new
-        (made_entry pass.old.view log (entry pass.old.view.who (Remove key) None)) }
+        (made_entry pass.old.view log (entry_of pass.old.view.who (Remove key) None)) }
 {
     let field = side.link();
     confirm_below_keyed::<Brand>(rows, pass, row, field, key);

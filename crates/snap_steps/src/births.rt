@@ -1,5 +1,5 @@
 //! Loads of births. The birth of a row that was linked never changes.
-ghost use Rattle.std.specs.Prelude.{◌≡◌, ℕ, ◌<◌, ◌≤◌, [], ◌∷◌};
+ghost use Rattle.std.specs.Prelude.{◌≡◌, ◌<◌, ◌≤◌, [], ◌∷◌};
 ghost use Rattle.snap_rule.specs.declared.reader.Point.{Point};
 ghost use Rattle.snap_rule.specs.declared.reader.Reading.TheVariants.{On};
 ghost use Rattle.snap_steps.specs.Counting.{Among};

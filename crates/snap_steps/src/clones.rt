@@ -7,8 +7,8 @@ ghost use Rattle.snap_steps.specs.Clones.{image, image_of, IsNotedSince, TellsWo
 ghost use Rattle.snap_steps.specs.Copies.{IsCloneAt, clone_of, with_stamp, CopiesRow};
 ghost use Rattle.snap_steps.specs.Seen.{IsOf, Becomes};
 ghost use Rattle.snap_steps.specs.Stages.{has_cut};
-ghost use Rattle.snap_steps.specs.Steps.Clones.{seat_of, root_loaded, writes_counted, copied, stamp_loaded, TellsCause};
-ghost use Rattle.snap_steps.specs.Steps.Header.{noted};
+ghost use Rattle.snap_steps.specs.Steps.Clones.{seat_of, root_loaded, writes_counted, CopiesCloneWord, stamp_loaded, TellsCause};
+ghost use Rattle.snap_steps.specs.Steps.Header.{word_noted};
 ghost use Rattle.snap_steps.specs.declared.view.WordNote.TheVariants.{Done};
 
 use crate::counter::Steps;
@@ -86,7 +86,7 @@ impl Play<(), View> for CountWrites {
 struct CopyWord;
 
 impl Play<(), View> for CopyWord {
-    ghost then = { copied };
+    ghost then = { CopiesCloneWord };
 }
 
 struct LoadStamp;
@@ -115,7 +115,7 @@ pub fn count_writes(rows: &Rows, pass: &mut Pass) -> u64
     requires cut { has_cut pass.old.view.stage ≡ 1 }
     ensures writes { result ≡ length pass.old.view.base.history }
     ensures seen { Begins pass.old.view.seen pass.old.view.base.history }
-    ensures pass { Becomes pass.old pass.new (noted pass.old.view (Done result)) }
+    ensures pass { Becomes pass.old pass.new (word_noted pass.old.view (Done result)) }
 {
     rows.table.shared.load::<CountWrites>(&mut pass.seat, 3)
 }

@@ -5,7 +5,7 @@ ghost use Rattle.snap_stamp.specs.declared.layout.Field.TheVariants.{Lock};
 ghost use Rattle.snap_steps.specs.Seen.{IsOf, Becomes};
 ghost use Rattle.snap_steps.specs.States.{link_field};
 ghost use Rattle.snap_steps.specs.Steps.Births.{learnt, lasting_loaded};
-ghost use Rattle.snap_steps.specs.Steps.Copies.{IsOlder, IsCopy, copied, copy_linked};
+ghost use Rattle.snap_steps.specs.Steps.Copies.{IsOlder, IsCopy, copied, LinksCopy};
 ghost use Rattle.snap_steps.specs.Steps.Tilts.{IsCopyPlace, IsWriting};
 
 use crate::fields::index_of;
@@ -36,7 +36,7 @@ struct LinkCopy<J> {
 }
 
 impl<J: Copying> Play<(), View> for LinkCopy<J> {
-    ghost then = { copy_linked J.key };
+    ghost then = { LinksCopy J.key };
 }
 
 /// Loads a word of a row of an earlier epoch. But for its lock such a row's words change no more.

@@ -4,7 +4,7 @@ ghost use Rattle.snap_rule.specs.declared.change.Doing.TheVariants.{Nothing};
 ghost use Rattle.snap_steps.specs.Drawing.{HasDrawn, FoundFull};
 ghost use Rattle.snap_steps.specs.Seen.{IsOf, Becomes};
 ghost use Rattle.snap_steps.specs.Steps.Draws.{drew, drawing_tried};
-ghost use Rattle.snap_steps.specs.Steps.Header.{noted};
+ghost use Rattle.snap_steps.specs.Steps.Header.{word_noted};
 ghost use Rattle.snap_steps.specs.declared.view.WordNote.TheVariants.{Next};
 
 use crate::header::load_next;
@@ -36,7 +36,7 @@ pub fn try_draw(rows: &Rows, pass: &mut Pass, found: u32) -> Result<RowNo, u32>
         (λ r. (r ≡ found + 1) × Becomes pass.old pass.new (drew pass.old.view r)) }
     ensures err { IfErr result
         (λ n. (n ≢ found) × (n ≤ rows.now.rows)
-        × Becomes pass.old pass.new (noted pass.old.view (Next n))) }
+        × Becomes pass.old pass.new (word_noted pass.old.view (Next n))) }
 {
     let expected = found as u64;
     let was = rows

@@ -8,7 +8,7 @@ ghost use Rattle.snap_stamp.specs.declared.layout.Field.TheVariants.{Key, Lock, 
 ghost use Rattle.snap_steps.specs.Counting.{Among};
 ghost use Rattle.snap_steps.specs.Facts.{IsKnown};
 ghost use Rattle.snap_steps.specs.Seen.{IsOf, Becomes};
-ghost use Rattle.snap_steps.specs.Steps.Fields.{read, led_to, own_stored, word_loaded, stored_own};
+ghost use Rattle.snap_steps.specs.Steps.Fields.{read, led_to, own_word_stored, word_loaded, stored_own};
 
 use crate::pass::Pass;
 use crate::rows::Rows;
@@ -89,7 +89,7 @@ fn store_placed<J: Placed>(rows: &Rows, pass: &mut Pass, row: RowNo, field: Fiel
     requires row { row ≤ rows.now.rows }
     requires own { Among row pass.old.view.fresh.own }
     requires field { (field ≢ Lock) × (field ≢ Stamp) }
-    ensures { Becomes pass.old pass.new (own_stored pass.old.view J.at_row J.at_field word) }
+    ensures { Becomes pass.old pass.new (own_word_stored pass.old.view J.at_row J.at_field word) }
 {
     let index = index_of(row, field);
     rows.table
@@ -104,7 +104,7 @@ pub fn store_own(rows: &Rows, pass: &mut Pass, row: RowNo, field: Field, word: u
     requires own { Among row pass.old.view.fresh.own }
     requires field { (field ≢ Lock) × (field ≢ Stamp) }
     requires whole { pass.old.view.doing ≡ Nothing }
-    ensures { Becomes pass.old pass.new (own_stored pass.old.view row field word) }
+    ensures { Becomes pass.old pass.new (own_word_stored pass.old.view row field word) }
 {
     store_placed::<Brand>(rows, pass, row, field, word);
 }
@@ -115,7 +115,7 @@ pub fn store_key(rows: &Rows, pass: &mut Pass, row: RowNo, key: Key)
     requires row { row ≤ rows.now.rows }
     requires own { Among row pass.old.view.fresh.own }
     requires whole { pass.old.view.doing ≡ Nothing }
-    ensures { Becomes pass.old pass.new (own_stored pass.old.view row Key key) }
+    ensures { Becomes pass.old pass.new (own_word_stored pass.old.view row Key key) }
 {
     store_own(rows, pass, row, Field::Key, key);
 }

@@ -3,7 +3,7 @@ ghost use Rattle.std.specs.Prelude.{◌≡◌, ◌≤◌, ℕ, length};
 ghost use Rattle.snap_steps.specs.Counting.{Among};
 ghost use Rattle.snap_steps.specs.Histories.{Extends};
 ghost use Rattle.snap_steps.specs.Seen.{IsOf, Becomes};
-ghost use Rattle.snap_steps.specs.Steps.Header.{noted, saw, left_seen, epoch_noted, next_loaded, gate_loaded, left_loaded, done_loaded, epoch_loaded};
+ghost use Rattle.snap_steps.specs.Steps.Header.{word_noted, saw, left_seen, epoch_noted, next_loaded, gate_loaded, left_loaded, done_loaded, epoch_loaded};
 ghost use Rattle.snap_steps.specs.declared.view.WordNote.TheVariants.{Next, Gate, Done};
 
 use crate::pass::Pass;
@@ -46,7 +46,7 @@ pub fn load_next(rows: &Rows, pass: &mut Pass) -> u32
     requires { IsOf pass.old rows.now }
     ensures range { result ≤ rows.now.rows }
     ensures since { pass.old.view.base.drawn ≤ result }
-    ensures pass { Becomes pass.old pass.new (noted pass.old.view (Next result)) }
+    ensures pass { Becomes pass.old pass.new (word_noted pass.old.view (Next result)) }
 {
     let found = rows.table.shared.load::<LoadNext>(&mut pass.seat, 0);
     found as u32
@@ -55,7 +55,7 @@ pub fn load_next(rows: &Rows, pass: &mut Pass) -> u32
 /// Twice the writes that were entered, plus 1 while the gate is closed.
 pub fn load_gate(rows: &Rows, pass: &mut Pass) -> u64
     requires { IsOf pass.old rows.now }
-    ensures { Becomes pass.old pass.new (noted pass.old.view (Gate result)) }
+    ensures { Becomes pass.old pass.new (word_noted pass.old.view (Gate result)) }
 {
     rows.table.shared.load::<LoadGate>(&mut pass.seat, 1)
 }
@@ -72,7 +72,7 @@ pub fn load_left(rows: &Rows, pass: &mut Pass) -> u64
 pub fn load_done(rows: &Rows, pass: &mut Pass) -> u64
     requires { IsOf pass.old rows.now }
     ensures { (seen : _) × Extends pass.old.view seen × (result ≤ length seen)
-        × Becomes pass.old pass.new (noted (saw pass.old.view seen) (Done result)) }
+        × Becomes pass.old pass.new (word_noted (saw pass.old.view seen) (Done result)) }
 {
     rows.table.shared.load::<LoadDone>(&mut pass.seat, 3)
 }

@@ -1,7 +1,7 @@
 //! What a pass keeps of its debt at run time: the to-do key, and which rows are listed, as long as these are few.
-ghost use Rattle.std.specs.Prelude.{◌≡◌, ◌⊎◌, ◌↔◌, IsTrue};
-ghost use Rattle.snap_steps.specs.Owed.{IsWith, Names, less, nothing_owed, one_more_row, owed_at, owed_one};
-ghost use Rattle.snap_steps.specs.declared.owed.Listed.TheVariants.{Empty, One, Two, Three};
+ghost use Rattle.std.specs.Prelude.{◌≡◌, ◌≢◌, ◌⊎◌, ◌↔◌, IsTrue};
+ghost use Rattle.snap_steps.specs.Owed.{IsMore, IsWith, IsWithout, Names, nothing_owed, owed_at, owed_one};
+ghost use Rattle.snap_steps.specs.declared.owed.Listed.TheVariants.{Empty, One};
 
 use snap_stamp::{Key, RowNo};
 
@@ -41,7 +41,7 @@ impl Listed {
     }
 
     fn one_more(self, row: RowNo) -> Listed
-        ensures { result ≡ one_more_row self row }
+        ensures { IsMore self row result }
     {
         match self {
             Listed::Empty => Listed::One(row),
@@ -54,15 +54,34 @@ impl Listed {
 
     /// Without this one.
     pub fn without(self, row: RowNo) -> Listed
-        ensures { result ≡ less self row }
+        ensures { IsWithout self row result }
     {
+        let none = Listed::Empty;
         match self {
-            Listed::Empty => Listed::Empty,
-            Listed::One(a) => { if a == row { Listed::Empty } else { self } }
-            Listed::Two(a, b) => without_of_two(a, b, row),
-            Listed::Three(a, b, c) => without_of_three(a, b, c, row),
+            Listed::Empty => none,
+            Listed::One(a) => none.more_but(a, row),
+            Listed::Two(a, b) => {
+                let first = none.more_but(a, row);
+                first.more_but(b, row)
+            }
+            Listed::Three(a, b, c) => {
+                let first = none.more_but(a, row);
+                let second = first.more_but(b, row);
+                second.more_but(c, row)
+            }
             Listed::Many => Listed::Many,
         }
+    }
+
+    // With one more, unless it is the row that goes.
+    fn more_but(self, row: RowNo, gone: RowNo) -> Listed
+        ensures gone { row ≡ gone → result ≡ self }
+        ensures other { row ≢ gone → IsMore self row result }
+    {
+        if row == gone {
+            return self;
+        }
+        self.one_more(row)
     }
 
     /// Whether it is surely no other than this one.
@@ -76,32 +95,6 @@ impl Listed {
             Listed::Three(_, _, _) => false,
             Listed::Many => false,
         }
-    }
-}
-
-fn without_of_two(a: RowNo, b: RowNo, row: RowNo) -> Listed
-    ensures { result ≡ less (Two a b) row }
-{
-    if a == row {
-        Listed::One(b)
-    } else if b == row {
-        Listed::One(a)
-    } else {
-        Listed::Two(a, b)
-    }
-}
-
-fn without_of_three(a: RowNo, b: RowNo, c: RowNo, row: RowNo) -> Listed
-    ensures { result ≡ less (Three a b c) row }
-{
-    if a == row {
-        Listed::Two(b, c)
-    } else if b == row {
-        Listed::Two(a, c)
-    } else if c == row {
-        Listed::Two(a, b)
-    } else {
-        Listed::Three(a, b, c)
     }
 }
 

@@ -1,6 +1,6 @@
 //! The steps of a rotation after the first.
-ghost use Rattle.std.specs.Prelude.{◌≡◌, ◌+◌, ◌%◌, ◌≤◌, ◌<◌, ◌^◌, ℕ};
-ghost use Rattle.snap_rule.specs.declared.change.Doing.TheVariants.{Lifted, Lowered, Nothing, Shrunk, Turned};
+ghost use Rattle.std.specs.Prelude.{◌≡◌, ◌+◌, ◌≤◌, ◌<◌, ◌^◌};
+ghost use Rattle.snap_rule.specs.declared.change.Doing.TheVariants.{Lowered, Shrunk, Turned};
 ghost use Rattle.snap_stamp.specs.Sides.{other};
 ghost use Rattle.snap_stamp.specs.declared.layout.Field.TheVariants.{Stamp};
 ghost use Rattle.snap_steps.specs.Facts.{IsKnown};

@@ -9,7 +9,7 @@ ghost use Rattle.snap_steps.specs.Counting.{Among};
 ghost use Rattle.snap_steps.specs.Facts.{IsKnown, IsBorn};
 ghost use Rattle.snap_steps.specs.Seen.{IsOf, Becomes};
 ghost use Rattle.snap_steps.specs.States.{link_field};
-ghost use Rattle.snap_steps.specs.Steps.Settling.{AimsByHeight, IsRightHeight, height_loaded, height_read, height_stored, heightened};
+ghost use Rattle.snap_steps.specs.Steps.Settling.{AimsByHeight, IsRightHeight, height_loaded, height_read, StoresHeight, heightened};
 ghost use Rattle.snap_steps.specs.Steps.Unlinking.{IsPair};
 
 use crate::fields::index_of;
@@ -109,7 +109,7 @@ struct Raise<J> {
 }
 
 impl<J: Raising> Play<(), View> for Raise<J> {
-    ghost then = { height_stored J.upper J.lower J.lower_key };
+    ghost then = { StoresHeight J.upper J.lower J.lower_key };
 }
 
 fn height_placed<J: Raising>(

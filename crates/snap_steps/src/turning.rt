@@ -5,7 +5,7 @@ ghost use Rattle.snap_rule.specs.declared.change.Doing.TheVariants.{Lifted};
 ghost use Rattle.snap_stamp.specs.declared.layout.Field.TheVariants.{Key, Stamp};
 ghost use Rattle.snap_steps.specs.Facts.{IsKnown};
 ghost use Rattle.snap_steps.specs.Seen.{IsOf, Becomes};
-ghost use Rattle.snap_steps.specs.Steps.Rotating.{HasStamps, turned, turn_stored};
+ghost use Rattle.snap_steps.specs.Steps.Rotating.{HasStamps, link_turned, turn_stored};
 
 use crate::fields::index_of;
 use crate::owed::Tally;
@@ -39,7 +39,7 @@ pub fn link_parent(
     requires key { IsKnown pass.old.view.words.knows row Key key }
     requires stamps { HasStamps pass.old.view parent row raised }
     ensures pass { Becomes pass.old pass.new
-        (turned pass.old.view parent parent_side row raised key) }
+        (link_turned pass.old.view parent parent_side row raised key) }
     ensures listed { (x : ℕ) → parent ≢ 0 → IsKnown pass.old.view.words.knows parent Stamp x
         → IsListed parent x pass.new.view.debt.list }
 {

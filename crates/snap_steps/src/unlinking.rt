@@ -6,7 +6,7 @@ ghost use Rattle.snap_stamp.specs.declared.side.Side.{Side};
 ghost use Rattle.snap_stamp.specs.declared.side.Side.TheVariants.{Right};
 ghost use Rattle.snap_steps.specs.Facts.{IsKnown};
 ghost use Rattle.snap_steps.specs.Seen.{IsOf, Becomes};
-ghost use Rattle.snap_steps.specs.Steps.Unlinking.{AimsNear, HasKey, IsPair, IsRouting, unlinked, unlinked_stored, spliced, splice_stored};
+ghost use Rattle.snap_steps.specs.Steps.Unlinking.{AimsNear, HasKey, IsPair, IsRouting, unlinked, unlinked_stored, row_spliced, splice_stored};
 
 use crate::fields::index_of;
 use crate::owed::Tally;
@@ -124,7 +124,7 @@ pub fn splice(rows: &Rows, pass: &mut Pass, parent: RowNo, side: Side, row: RowN
     requires table { IsOf pass.old rows.now }
     requires parent { parent ≤ rows.now.rows }
     requires change { pass.old.view.doing ≡ Unlinked parent side row only }
-    ensures { Becomes pass.old pass.new (spliced pass.old.view parent side only) }
+    ensures { Becomes pass.old pass.new (row_spliced pass.old.view parent side only) }
 {
     let _row = row;
     let word = index_of(parent, side.link());

@@ -4,7 +4,7 @@ ghost use Rattle.snap_rule.specs.declared.reader.Point.{Point};
 ghost use Rattle.snap_rule.specs.declared.reader.Reading.TheVariants.{On};
 ghost use Rattle.snap_steps.specs.Histories.{Extends};
 ghost use Rattle.snap_steps.specs.Seen.{IsOf, Becomes};
-ghost use Rattle.snap_steps.specs.Steps.Header.{noted};
+ghost use Rattle.snap_steps.specs.Steps.Header.{word_noted};
 ghost use Rattle.snap_steps.specs.Steps.Way.{set_out_for, read_on, settled_at, IsNext, IsLast, HasBound, HasAnswer, begun_again, way_begun, way_begun_again, next_read, answer_read};
 ghost use Rattle.snap_steps.specs.declared.view.WordNote.TheVariants.{Done};
 
@@ -49,7 +49,7 @@ fn set_out_keyed<J: Saying>(rows: &Rows, pass: &mut Pass, key: Key) -> u64
     requires key { key ≡ J.key }
     requires table { IsOf pass.old rows.now }
     ensures { (seen : _) × Extends pass.old.view seen × (result ≤ length seen)
-        × Becomes pass.old pass.new (set_out_for (noted pass.old.view (Done result)) seen J.key) }
+        × Becomes pass.old pass.new (set_out_for (word_noted pass.old.view (Done result)) seen J.key) }
 {
     let _key = key;
     rows.table.shared.load::<SetOut<J>>(&mut pass.seat, 3)
@@ -59,7 +59,7 @@ fn set_out_keyed<J: Saying>(rows: &Rows, pass: &mut Pass, key: Key) -> u64
 pub fn set_out(rows: &Rows, pass: &mut Pass, key: Key) -> u64
     requires { IsOf pass.old rows.now }
     ensures { (seen : _) × Extends pass.old.view seen × (result ≤ length seen)
-        × Becomes pass.old pass.new (set_out_for (noted pass.old.view (Done result)) seen key) }
+        × Becomes pass.old pass.new (set_out_for (word_noted pass.old.view (Done result)) seen key) }
 {
     set_out_keyed::<Brand>(rows, pass, key)
 }

@@ -14,7 +14,7 @@ ghost use Rattle.snap_steps.specs.Pairs.{added_by, taken_by};
 ghost use Rattle.snap_steps.specs.Seen.{IsOf, Becomes};
 ghost use Rattle.snap_steps.specs.States.{link_field};
 ghost use Rattle.snap_steps.specs.Steps.Debts.{OwesNothing};
-ghost use Rattle.snap_steps.specs.Steps.Writes.{call_of, entry, stored, made_entry, hung, counted_one, IsLeaf, IsPlace, value_stored, absent_confirmed, leaf_hung, done_counted};
+ghost use Rattle.snap_steps.specs.Steps.Writes.{call_of, entry_of, stored, made_entry, hung, counted_one, IsLeaf, IsLeafPlace, StoresValue, ConfirmsAbsent, leaf_hung, done_counted};
 ghost use Rattle.snap_steps.specs.declared.view.Stage.TheVariants.{Writing};
 
 use crate::fields::index_of;
@@ -29,7 +29,7 @@ use std::marker::{Brand, PhantomData};
 struct StoreValue;
 
 impl Play<(), View> for StoreValue {
-    ghost then = { value_stored };
+    ghost then = { StoresValue };
 }
 
 struct CountDone;
@@ -52,7 +52,7 @@ struct ConfirmAbsent<J> {
 }
 
 impl<J: Saying> Play<(), View> for ConfirmAbsent<J> {
-    ghost then = { absent_confirmed J.key };
+    ghost then = { ConfirmsAbsent J.key };
 }
 
 /// Where a leaf is to be linked, and what it holds. Each call picks it.
@@ -99,10 +99,10 @@ pub fn store_value(rows: &Rows, pass: &mut Pass, row: RowNo, key: Key, new: u64)
     requires owes { OwesNothing pass.old.view }
     ensures known { (x : ℕ) → IsKnown pass.old.view.words.knows row Value x → result ≡ x }
     ensures entry { (log : _)
-        × Enters pass.old.view log (entry pass.old.view.who (call_of key new) (value_of result))
+        × Enters pass.old.view log (entry_of pass.old.view.who (call_of key new) (value_of result))
         × Becomes pass.old pass.new
         (stored pass.old.view log
-        (entry pass.old.view.who (call_of key new) (value_of result)) row new) }
+        (entry_of pass.old.view.who (call_of key new) (value_of result)) row new) }
 {
     let word = index_of(row, Field::Value);
     let was = rows
@@ -150,9 +150,9 @@ fn confirm_keyed<J: Saying>(rows: &Rows, pass: &mut Pass, row: RowNo, key: Key)
         × IsKnown pass.old.view.words.knows row Value 0 }
     requires copies { AllAre key pass.old.view.fresh.copies }
     requires born { IsBorn pass.old.view row }
-    ensures { (log : _) × Enters pass.old.view log (entry pass.old.view.who (Remove J.key) None)
+    ensures { (log : _) × Enters pass.old.view log (entry_of pass.old.view.who (Remove J.key) None)
         × Becomes pass.old pass.new
-        (made_entry pass.old.view log (entry pass.old.view.who (Remove J.key) None)) }
+        (made_entry pass.old.view log (entry_of pass.old.view.who (Remove J.key) None)) }
 {
     let _key = key;
     let word = index_of(row, Field::Value);
@@ -174,9 +174,9 @@ pub fn confirm_absent(rows: &Rows, pass: &mut Pass, row: RowNo, key: Key)
     requires copies { AllAre key pass.old.view.fresh.copies }
     requires born { IsBorn pass.old.view row }
     requires whole { pass.old.view.doing ≡ Nothing }
-    ensures { (log : _) × Enters pass.old.view log (entry pass.old.view.who (Remove key) None)
+    ensures { (log : _) × Enters pass.old.view log (entry_of pass.old.view.who (Remove key) None)
         × Becomes pass.old pass.new
-        (made_entry pass.old.view log (entry pass.old.view.who (Remove key) None)) }
+        (made_entry pass.old.view log (entry_of pass.old.view.who (Remove key) None)) }
 {
     confirm_keyed::<Brand>(rows, pass, row, key);
 }
@@ -195,15 +195,15 @@ fn link_placed<J: Leaf>(
     requires parent { parent ≤ rows.now.rows }
     requires writing { pass.old.view.stage ≡ Writing false false }
     requires made { IsLeaf pass.old.view row key value }
-    requires place { IsPlace pass.old.view key parent field }
+    requires place { IsLeafPlace pass.old.view key parent field }
     requires copies { AllAre key pass.old.view.fresh.copies }
     requires whole { pass.old.view.doing ≡ Nothing }
     requires owes { OwesNothing pass.old.view }
     ensures { (log : _)
-        × Enters pass.old.view log (entry pass.old.view.who (Put J.key J.value) None)
+        × Enters pass.old.view log (entry_of pass.old.view.who (Put J.key J.value) None)
         × Becomes pass.old pass.new
         (hung pass.old.view log
-        (entry pass.old.view.who (Put J.key J.value) None) J.below J.by_field row) }
+        (entry_of pass.old.view.who (Put J.key J.value) None) J.below J.by_field row) }
 {
     let _told = (key, value);
     let word = index_of(parent, field);
@@ -230,13 +230,13 @@ pub fn link_leaf(
     requires parent { parent ≤ rows.now.rows }
     requires writing { pass.old.view.stage ≡ Writing false false }
     requires made { IsLeaf pass.old.view row key value }
-    requires place { IsPlace pass.old.view key parent (link_field side) }
+    requires place { IsLeafPlace pass.old.view key parent (link_field side) }
     requires copies { AllAre key pass.old.view.fresh.copies }
     requires whole { pass.old.view.doing ≡ Nothing }
     requires owes { OwesNothing pass.old.view }
-    ensures { (log : _) × Enters pass.old.view log (entry pass.old.view.who (Put key value) None)
+    ensures { (log : _) × Enters pass.old.view log (entry_of pass.old.view.who (Put key value) None)
         × Becomes pass.old pass.new
-        (hung pass.old.view log (entry pass.old.view.who (Put key value) None) parent
+        (hung pass.old.view log (entry_of pass.old.view.who (Put key value) None) parent
         (link_field side) row) }
 {
     let field = side.link();

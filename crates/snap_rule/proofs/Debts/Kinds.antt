@@ -7,7 +7,7 @@ use Rattle.snap_model.specs.History.{call_key, call_value}
 use Rattle.snap_stamp.specs.declared.side.Side.{Side}
 use Rattle.snap_rule.specs.Tree.{Tree, Stands, OnWay, value_word, root}
 use Rattle.snap_rule.specs.Tree.Tree.{empty, node}
-use Rattle.snap_rule.specs.State.{State, In, IsShared, Reads}
+use Rattle.snap_rule.specs.State.{State, In, IsShared, Represents}
 use Rattle.snap_rule.specs.Rule.{IsLive, TableOk, IsParent}
 use Rattle.snap_rule.specs.Updates.{changed}
 use Rattle.snap_rule.specs.Kinds.Entries.{value_stored, MayStoreValue}
@@ -215,7 +215,7 @@ module _ (s : State) (debts : ℕ → Debt) (id : ℕ) (ok : TableOk s) (debt : 
   beyond_ends c n (inr u) b = beyond_shared c n u b
   beyond_ends c n (inl z) b = λ l. empty_part b.part (sym b.top ∙ z) b.reads b.is_in
     where
-      empty_part : (t : Tree) → root t ≡ 0 → Reads s s.links t → Stands n t → ⊥
+      empty_part : (t : Tree) → root t ≡ 0 → Represents s s.links t → Stands n t → ⊥
       empty_part empty e v h = h
       empty_part (node m x y) e v h = let p = v.0.is_row in absurd (omega arith)
 

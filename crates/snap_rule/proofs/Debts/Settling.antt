@@ -5,7 +5,7 @@ use mathlib.Core.Logic.{dite}
 use Rattle.snap_rule.specs.Tree.{Tree, root, Stands, value_word}
 use Rattle.snap_stamp.specs.declared.side.Side.TheVariants.{Left, Right}
 use Rattle.snap_rule.specs.Tree.Tree.{empty, node}
-use Rattle.snap_rule.specs.State.{State, IsImage, Reads}
+use Rattle.snap_rule.specs.State.{State, IsImage, Represents}
 use Rattle.snap_rule.specs.Rule.{TableOk}
 use Rattle.snap_rule.specs.Kinds.Clones.{cut, MayCut}
 use Rattle.snap_rule.specs.Debt.{OwesNone, DebtOk}
@@ -18,7 +18,7 @@ use Rattle.snap_rule.proofs.Debts.Room.{stamp_found}
 
 -- where no pass owes, the tree is settled
 module _ (s : State) where
-  top_at : (t : Tree) (c : ℕ) → Reads s s.links t → c ≡ root t → height_at s.height c ≡ top_height t
+  top_at : (t : Tree) (c : ℕ) → Represents s s.links t → c ≡ root t → height_at s.height c ≡ top_height t
   top_at empty c v e = ap (height_at s.height) e
   top_at (node m a b) c v e = ap (height_at s.height) e ∙ positive m.row v.0.is_row ∙ v.0.height
     where
@@ -34,7 +34,7 @@ module _ (s : State) where
   has_value None x e z = z e
   has_value (Some v) x e z = tt
 
-  settled_tree : (t : Tree) → Reads s s.links t → ((n : ℕ) → Stands n t → IsSettled s n) → IsSettledTree t
+  settled_tree : (t : Tree) → Represents s s.links t → ((n : ℕ) → Stands n t → IsSettled s n) → IsSettledTree t
   settled_tree empty v f = tt
   settled_tree (node m a b) v f =
       let q = f m.row (inl refl) in

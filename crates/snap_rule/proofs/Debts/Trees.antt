@@ -11,7 +11,7 @@ use Rattle.snap_stamp.specs.declared.side.Side.TheVariants.{Left, Right}
 use Rattle.snap_rule.specs.State.{State, In, IsShared}
 use Rattle.snap_stamp.specs.Stamps.{IsUnlinked, IsUnmarked}
 use Rattle.snap_rule.specs.State.Change.{plain}
-use Rattle.snap_rule.specs.Rule.{IsLive, TableOk, Fits, IsParent}
+use Rattle.snap_rule.specs.Rule.{IsLive, TableOk, LinkFits, IsParent}
 use Rattle.snap_rule.specs.Updates.{changed, relink}
 use Rattle.snap_rule.specs.TreeChanges.{without, leaf_of}
 use Rattle.snap_rule.specs.Kinds.Entries.{leaf_linked, MayLinkLeaf}
@@ -39,7 +39,7 @@ use Rattle.snap_rule.proofs.Debts.Turns.{not_zero}
 -- the word of a link that is in no change
 pub true_link : (s : State) (parent : ℕ) (d : Side) → TableOk s → IsParent s parent d → s.pending parent d ≡ plain
     → s.link parent d ≡ s.links parent d
-true_link s parent d ok live e = subst (Fits s parent d) e (ok.changes.fits parent d (place live))
+true_link s parent d ok live e = subst (LinkFits s parent d) e (ok.changes.fits parent d (place live))
   where
     place : IsParent s parent d → (parent ≡ 0) ⊎ Stands parent s.tree
     place (inl q) = inl q.0

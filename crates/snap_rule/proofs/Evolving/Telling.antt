@@ -12,7 +12,7 @@ use Rattle.snap_rule.specs.State.{State, In, IsShared, IsImage}
 use Rattle.snap_stamp.specs.Stamps.{IsUnmarked, IsUnlinked}
 use Rattle.snap_rule.specs.Evolves.{Evolves, SameRow}
 use Rattle.snap_rule.specs.Position.{OnImage}
-use Rattle.snap_rule.specs.Rule.{TreeOk, LinksOk, ChangesOk, Fits, IsParent}
+use Rattle.snap_rule.specs.Rule.{TreeOk, LinksOk, ChangesOk, LinkFits, IsParent}
 use Rattle.snap_rule.specs.Updates.{changed}
 use Rattle.snap_rule.specs.Kinds.Entries.{value_stored, MayStoreValue}
 use Rattle.snap_rule.specs.Kinds.Clones.{cut, MayCut, copy_linked, MayLinkCopy}
@@ -67,7 +67,7 @@ cut_place s n k tree_ok links_ok changes_ok may w =
       image = t;
       is_image = record {
         top = u.row;
-        reads = reads_same s (cut s) s.links s.link t u.reads (λ r h. (refl, refl, refl, λ d. subst (Fits s r d) (may.no_change r d) (changes_ok.fits r d (inr (u.stands r h)))));
+        reads = reads_same s (cut s) s.links s.link t u.reads (λ r h. (refl, refl, refl, λ d. subst (LinkFits s r d) (may.no_change r d) (changes_ok.fits r d (inr (u.stands r h)))));
         rows = each_stands (λ r. In r s.linked × IsShared (cut s) r) t (λ r h. row r (u.stands r h));
       };
       tells = now s.history s.history (λ p. find t k ≡ told p k) (begins_refl s.history) (u.finds ∙ tree_ok.tells k);
@@ -76,7 +76,7 @@ cut_place s n k tree_ok links_ok changes_ok may w =
 -- what a clone answers from: the tree at the cut, read from its root
 pub cut_image : (s : State) → TreeOk s → LinksOk s → ChangesOk s → MayCut s → IsImage (cut s) (s.link 0 Right) s.tree
 cut_image s tree_ok links_ok changes_ok may =
-    let same : (n : ℕ) (d : Side) → (n ≡ 0) ⊎ Stands n s.tree → s.link n d ≡ s.links n d = λ n d h. subst (Fits s n d) (may.no_change n d) (changes_ok.fits n d h) in
+    let same : (n : ℕ) (d : Side) → (n ≡ 0) ⊎ Stands n s.tree → s.link n d ≡ s.links n d = λ n d h. subst (LinkFits s n d) (may.no_change n d) (changes_ok.fits n d h) in
     record {
       top = sym (same 0 Right (inl refl) ∙ tree_ok.root);
       reads = reads_same s (cut s) s.links s.link s.tree tree_ok.reads (λ r h. (refl, refl, refl, λ d. same r d (inr h)));
@@ -131,7 +131,7 @@ pub unlink_thin : (s : State) (parent : ℕ) (d : Side) (row : ℕ) → ChangesO
 unlink_thin s parent d row changes_ok may c = elim c [ inl z ↦ inl (sym (same Left) ∙ z) | inr z ↦ inr (sym (same Right) ∙ z) ]
   where
     same : (e : Side) → s.link row e ≡ s.links row e
-    same e = subst (Fits s row e) (may.no_change row e (inr refl)) (changes_ok.fits row e (inr may.live.stands))
+    same e = subst (LinkFits s row e) (may.no_change row e (inr refl)) (changes_ok.fits row e (inr may.live.stands))
 
 pub stamp_up : (s : State) (row more n : ℕ) → s.stamp n ≤ changed s.stamp row (s.stamp row + more) n
 stamp_up s row more n = dite (ℕ_discrete n row)

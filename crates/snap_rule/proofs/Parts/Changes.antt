@@ -10,7 +10,7 @@ use Rattle.snap_stamp.specs.declared.side.Side.{Side}
 use Rattle.snap_rule.specs.State.{State, Change, In, IsShared}
 use Rattle.snap_stamp.specs.Stamps.{IsUnlinked, IsShrinking}
 use Rattle.snap_rule.specs.State.Change.{plain, unlinking, lowering, raising}
-use Rattle.snap_rule.specs.Rule.{TreeOk, LinksOk, ChangesOk, IsLive, Fits, IsParent}
+use Rattle.snap_rule.specs.Rule.{TreeOk, LinksOk, ChangesOk, IsLive, LinkFits, IsParent}
 use Rattle.snap_rule.specs.Updates.{changed, relink}
 use Rattle.snap_rule.specs.TreeChanges.{renamed, grown, leaf_of}
 use Rattle.snap_rule.specs.Kinds.Entries.{value_stored, leaf_linked, MayLinkLeaf}
@@ -28,25 +28,25 @@ pub fits_kept : (s s' : State) (n : ℕ) (d : Side) (x : Change) → s'.link n d
     → ((c : ℕ) → IsUnlinked (s.stamp c) → IsUnlinked (s'.stamp c))
     → ((c : ℕ) → x ≡ lowering c → IsShrinking (s.stamp n) → IsShrinking (s'.stamp n))
     → ((c : ℕ) → x ≡ raising c → IsLive s c → IsShrinking (s.stamp c) → IsLive s' c × IsShrinking (s'.stamp c))
-    → Fits s n d x → Fits s' n d x
+    → LinkFits s n d x → LinkFits s' n d x
 fits_kept s s' n d plain e f u l r h = e ∙ h ∙ sym f
 fits_kept s s' n d (unlinking c) e f u l r h = (e ∙ h.0, h.1, u c h.2)
 fits_kept s s' n d (lowering c) e f u l r h = (e ∙ h.0, l c refl h.1)
 fits_kept s s' n d (raising c) e f u l r h = let q = r c refl h.1 h.2 in (e ∙ h.0, q.0, q.1)
 
 -- a link in no change
-fits_plain : (s' : State) (n : ℕ) (d : Side) → s'.pending n d ≡ plain → s'.link n d ≡ s'.links n d → Fits s' n d (s'.pending n d)
-fits_plain s' n d e h = subst (Fits s' n d) (sym e) h
+fits_plain : (s' : State) (n : ℕ) (d : Side) → s'.pending n d ≡ plain → s'.link n d ≡ s'.links n d → LinkFits s' n d (s'.pending n d)
+fits_plain s' n d e h = subst (LinkFits s' n d) (sym e) h
 
 -- where the change at (n, d) is another
-fits_set : (s' : State) (n r : ℕ) (d e : Side) (x : Change) → n ≡ r → d ≡ e → s'.pending r e ≡ x → Fits s' r e x → Fits s' n d (s'.pending n d)
+fits_set : (s' : State) (n r : ℕ) (d e : Side) (x : Change) → n ≡ r → d ≡ e → s'.pending r e ≡ x → LinkFits s' r e x → LinkFits s' n d (s'.pending n d)
 fits_set s' n r d e x q z i h =
-    let f : Fits s' r e (s'.pending r e) = subst (Fits s' r e) (sym i) h in
-    let g : Fits s' n e (s'.pending n e) = subst (λ (y : ℕ). Fits s' y e (s'.pending y e)) (sym q) f in
-    subst (λ (y : Side). Fits s' n y (s'.pending n y)) (sym z) g
+    let f : LinkFits s' r e (s'.pending r e) = subst (LinkFits s' r e) (sym i) h in
+    let g : LinkFits s' n e (s'.pending n e) = subst (λ (y : ℕ). LinkFits s' y e (s'.pending y e)) (sym q) f in
+    subst (λ (y : Side). LinkFits s' n y (s'.pending n y)) (sym z) g
 
-fits_left : (s s' : State) (n : ℕ) (d : Side) → s'.pending n d ≡ s.pending n d → Fits s' n d (s.pending n d) → Fits s' n d (s'.pending n d)
-fits_left s s' n d e h = subst (Fits s' n d) (sym e) h
+fits_left : (s s' : State) (n : ℕ) (d : Side) → s'.pending n d ≡ s.pending n d → LinkFits s' n d (s.pending n d) → LinkFits s' n d (s'.pending n d)
+fits_left s s' n d e h = subst (LinkFits s' n d) (sym e) h
 
 row_back : (s s' : State) (n : ℕ) → (Stands n s'.tree → Stands n s.tree) → (n ≡ 0) ⊎ Stands n s'.tree → (n ≡ 0) ⊎ Stands n s.tree
 row_back s s' n f (inl z) = inl z
@@ -84,7 +84,7 @@ height_changes s row x ok =
 
 pub cut_changes : (s : State) → ChangesOk s → MayCut s → ChangesOk (cut s)
 cut_changes s ok may = record {
-  fits = λ n d h. fits_plain (cut s) n d (may.no_change n d) (subst (Fits s n d) (may.no_change n d) (ok.fits n d h));
+  fits = λ n d h. fits_plain (cut s) n d (may.no_change n d) (subst (LinkFits s n d) (may.no_change n d) (ok.fits n d h));
   live = λ n d z. absurd (z (may.no_change n d));
 }
 
@@ -122,7 +122,7 @@ module _ (s : State) (r : ℕ) (e : Side) (v : ℕ) (x : Change) (ok : ChangesOk
   live_same : (n : ℕ) → IsLive s n → IsLive after_link n
   live_same n l = record { stands = l.stands; own = λ y. l.own (record { is_row = y.is_row; older = y.older }) }
 
-  link_changes : Fits after_link r e x → (x ≢ plain → (r ≡ 0) ⊎ IsLive s r) → ChangesOk after_link
+  link_changes : LinkFits after_link r e x → (x ≢ plain → (r ≡ 0) ⊎ IsLive s r) → ChangesOk after_link
   link_changes f l = record {
     fits = λ n d h. elim (same_place n r d e) [
       | inl q ↦ fits_set after_link n r d e x q.0 q.1 (relink_same s.pending r e x) f
@@ -245,7 +245,7 @@ raise_changes s parent p row d raised ok may =
     let two : ℕ → Side → ℕ = relink one raised (other d) row in
     let first : ℕ → Side → Change = relink s.pending row d plain in
     let live : (n : ℕ) → IsLive s n → IsLive s' n = λ n l. record { stands = stands_rotated row d s.tree n l.stands; own = λ y. l.own (record { is_row = y.is_row; older = y.older }) } in
-    let names_row : s.link raised (other d) ≡ row = (subst (Fits s raised (other d)) may.raising_is (ok.fits raised (other d) (inr may.raised_live.stands))).0 in
+    let names_row : s.link raised (other d) ≡ row = (subst (LinkFits s raised (other d)) may.raising_is (ok.fits raised (other d) (inr may.raised_live.stands))).0 in
     record {
       fits = λ n e h. elim (same_place n parent e p) [
         | inl q ↦ fits_set s' n parent e p plain q.0 q.1

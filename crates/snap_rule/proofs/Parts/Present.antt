@@ -8,9 +8,9 @@ use Rattle.snap_rule.specs.Tree.{Node, Tree, root, Stands}
 use Rattle.snap_stamp.specs.declared.side.Side.{Side}
 use Rattle.snap_stamp.specs.declared.side.Side.TheVariants.{Left, Right}
 use Rattle.snap_rule.specs.Tree.Tree.{empty, node}
-use Rattle.snap_rule.specs.State.{State, In, IsShared, Reads}
+use Rattle.snap_rule.specs.State.{State, In, IsShared, Represents}
 use Rattle.snap_stamp.specs.Stamps.{IsUnlinked}
-use Rattle.snap_rule.specs.Rule.{TreeOk, LinksOk, ChangesOk, PresentOk, IsLive, Fits, IsParent}
+use Rattle.snap_rule.specs.Rule.{TreeOk, LinksOk, ChangesOk, PresentOk, IsLive, LinkFits, IsParent}
 use Rattle.snap_rule.specs.Updates.{changed}
 use Rattle.snap_rule.specs.TreeChanges.{renamed, first_on, grown_below, grown, leaf_of}
 use Rattle.snap_rule.specs.Kinds.Entries.{value_stored, leaf_linked, MayLinkLeaf}
@@ -39,7 +39,7 @@ leaf_first Right m a empty l e = inr (inr (inl refl))
 leaf_first Right m a (node p x y) l e = cc
 
 module _ (s : State) (links : ℕ → Side → ℕ) (r : ℕ) (d : Side) (l : Node) (none : links r d ≡ 0) where
-  leaf_below : (t : Tree) → Reads s links t → Stands r t → Stands l.row (grown_below r d l t)
+  leaf_below : (t : Tree) → Represents s links t → Stands r t → Stands l.row (grown_below r d l t)
   leaf_below empty v h = absurd h
   leaf_below (node m a b) v h = dite (ℕ_discrete m.row r)
       (λ e. let g : eqb m.row r ≡ true = eq-eqb m.row r e in let c = reads_child s links d m a b v in
@@ -53,7 +53,7 @@ module _ (s : State) (links : ℕ → Side → ℕ) (r : ℕ) (d : Side) (l : No
       below (inr (inl i)) e f g = inr (inl (f i))
       below (inr (inr i)) e f g = inr (inr (g i))
 
-  leaf_stands : (t : Tree) → Reads s links t → (root t ≡ 0) ⊎ Stands r t → Stands l.row (grown r d l t)
+  leaf_stands : (t : Tree) → Represents s links t → (root t ≡ 0) ⊎ Stands r t → Stands l.row (grown r d l t)
   leaf_stands empty v h = inl refl
   leaf_stands (node m a b) v (inl z) = absurd (omega (arith, v.0.is_row, z))
   leaf_stands (node m a b) v (inr h) = leaf_below (node m a b) v h
@@ -147,7 +147,7 @@ module _ (s : State) (ok : PresentOk s) where
       → PresentOk (copy_linked s parent d row copy)
   copy_present parent d row copy tree_ok links_ok changes_ok may =
       let z : row ≢ 0 = (let p = may.shared.is_row in λ q. omega arith) in
-      let child : s.links parent d ≡ row = sym (subst (Fits s parent d) may.no_change (changes_ok.fits parent d (place may.parent_live))) ∙ may.child in
+      let child : s.links parent d ≡ row = sym (subst (LinkFits s parent d) may.no_change (changes_ok.fits parent d (place may.parent_live))) ∙ may.child in
       let there : Stands row s.tree = row_stands s tree_ok links_ok parent d row may.parent_live child z in
       record {
         stands = λ n h u r. elim h [
@@ -171,7 +171,7 @@ module _ (s : State) (ok : PresentOk s) where
   pub leaf_present : (parent : ℕ) (d : Side) (row : ℕ) (x : Entry) → TreeOk s → ChangesOk s → MayLinkLeaf s parent d row x
       → PresentOk (leaf_linked s parent d row x)
   leaf_present parent d row x tree_ok changes_ok may =
-      let none : s.links parent d ≡ 0 = sym (subst (Fits s parent d) may.no_change (changes_ok.fits parent d (place may.parent_live))) ∙ may.no_child in
+      let none : s.links parent d ≡ 0 = sym (subst (LinkFits s parent d) may.no_change (changes_ok.fits parent d (place may.parent_live))) ∙ may.no_child in
       record {
         stands = λ n h u r. elim h [
           | inl q ↦ subst (λ (y : ℕ). Stands y (grown parent d (leaf_of row x) s.tree)) (sym q) (leaf_stands s s.links parent d (leaf_of row x) none s.tree tree_ok.reads (top none may.parent_live))
@@ -205,4 +205,4 @@ copy_once s ok tree_ok links_ok changes_ok parent d row copy may r = ok.gone row
     place (inr l) = inr l.stands
 
     child : s.links parent d ≡ row
-    child = sym (subst (Fits s parent d) may.no_change (changes_ok.fits parent d (place may.parent_live))) ∙ may.child
+    child = sym (subst (LinkFits s parent d) may.no_change (changes_ok.fits parent d (place may.parent_live))) ∙ may.child

@@ -9,9 +9,9 @@ use Rattle.snap_stamp.specs.Sides.{Toward, other}
 use Rattle.snap_stamp.specs.declared.side.Side.{Side}
 use Rattle.snap_stamp.specs.declared.side.Side.TheVariants.{Left, Right}
 use Rattle.snap_rule.specs.Tree.Tree.{empty, node}
-use Rattle.snap_rule.specs.State.{State, In, IsShared, Says, Reads}
+use Rattle.snap_rule.specs.State.{State, In, IsShared, Says, Represents}
 use Rattle.snap_stamp.specs.Stamps.{IsUnlinked}
-use Rattle.snap_rule.specs.Rule.{TreeOk, LinksOk, ChangesOk, Fits, IsParent}
+use Rattle.snap_rule.specs.Rule.{TreeOk, LinksOk, ChangesOk, LinkFits, IsParent}
 use Rattle.snap_rule.specs.Updates.{changed, relink}
 use Rattle.snap_rule.specs.TreeChanges.{renamed, without, one_of, rotated, grown, leaf_of}
 use Rattle.snap_rule.specs.Kinds.Entries.{value_stored, MayStoreValue, leaf_linked, MayLinkLeaf}
@@ -147,7 +147,7 @@ module _ (s : State) (ok : TreeOk s) (links_ok : LinksOk s) (parent : ℕ) (d : 
   is_top z = sym ok.root ∙ ap₂ s.links z.0 z.1 ∙ child
 
 -- a row leaves the tree
-pub without_gone : (s : State) (l : ℕ → Side → ℕ) (r low high : ℕ) (t : Tree) → Between low high t → Reads s l t → Stands r (without r t) → ⊥
+pub without_gone : (s : State) (l : ℕ → Side → ℕ) (r low high : ℕ) (t : Tree) → Between low high t → Represents s l t → Stands r (without r t) → ⊥
 without_gone s l r low high empty o v h = h
 without_gone s l r low high (node m a b) o v h = dite (ℕ_discrete m.row r)
     (λ e. let g : eqb m.row r ≡ true = eq-eqb m.row r e in here e a b (λ i. let k = left_key s l low high m a b r o v i in let q = ap s.key e in omega arith) (λ i. let k = right_key s l low high m a b r o v i in let q = ap s.key e in omega arith) (rw g at h))
@@ -169,8 +169,8 @@ unlink_tree s parent d row ok links_ok changes_ok may =
     let s' : State = unlinked_marked s parent d row in
     let only : ℕ = only_child s row in
     let z : row ≢ 0 = (let p = row_positive s s.links s.tree row ok.reads may.live.stands in λ q. omega arith) in
-    let same : (e : Side) → s.link row e ≡ s.links row e = λ e. subst (Fits s row e) (may.no_change row e (inr refl)) (changes_ok.fits row e (inr may.live.stands)) in
-    let child : s.links parent d ≡ row = sym (subst (Fits s parent d) (may.no_change parent d (inl refl)) (changes_ok.fits parent d (place may.parent_live))) ∙ may.child in
+    let same : (e : Side) → s.link row e ≡ s.links row e = λ e. subst (LinkFits s row e) (may.no_change row e (inr refl)) (changes_ok.fits row e (inr may.live.stands)) in
+    let child : s.links parent d ≡ row = sym (subst (LinkFits s parent d) (may.no_change parent d (inl refl)) (changes_ok.fits parent d (place may.parent_live))) ∙ may.child in
     let first : s.links row Left ≡ 0 → only ≡ s.links row Right = λ h. let g : eqb (s.link row Left) 0 ≡ true = eq-eqb (s.link row Left) 0 (same Left ∙ h) in rw g (same Right) in
     let second : s.links row Left ≢ 0 → only ≡ s.links row Left = λ h. let g : eqb (s.link row Left) 0 ≡ false = ne_eqb (s.link row Left) 0 (λ x. h (sym (same Left) ∙ x)) in rw g (same Left) in
     let lean = thin s s.links row s.tree ok.reads (unlink_thin s parent d row changes_ok may may.one_child) in
@@ -205,7 +205,7 @@ copy_tree s parent d row copy ok links_ok changes_ok may =
     let base : ℕ → Side → ℕ = changed s.links copy (s.link copy) in
     let l' : ℕ → Side → ℕ = relink base parent d copy in
     let z : row ≢ 0 = (let p = may.shared.is_row in λ q. omega arith) in
-    let child : s.links parent d ≡ row = sym (subst (Fits s parent d) may.no_change (changes_ok.fits parent d (place may.parent_live))) ∙ may.child in
+    let child : s.links parent d ≡ row = sym (subst (LinkFits s parent d) may.no_change (changes_ok.fits parent d (place may.parent_live))) ∙ may.child in
     let stands : Stands row s.tree = row_stands s ok links_ok parent d row may.parent_live child z in
     let apart : copy ≢ parent = not_parent may.parent_live in
     let old : (n : ℕ) → Stands n s.tree → n ≢ copy = λ n h q. may.fresh (subst (λ (x : ℕ). In x s.linked) q (ok.rows n h).0) in
@@ -245,11 +245,11 @@ copy_tree s parent d row copy ok links_ok changes_ok may =
     not_own (inl q) e = let p = may.shared.is_row in omega (arith, q.0)
     not_own (inr l) e = l.own (subst (IsShared s) e may.shared)
 
-root_leaf : (s : State) (l : ℕ → Side → ℕ) (r : ℕ) (d : Side) (leaf : Node) (t : Tree) → Reads s l t → root t ≡ 0 → root (grown r d leaf t) ≡ leaf.row
+root_leaf : (s : State) (l : ℕ → Side → ℕ) (r : ℕ) (d : Side) (leaf : Node) (t : Tree) → Represents s l t → root t ≡ 0 → root (grown r d leaf t) ≡ leaf.row
 root_leaf s l r d leaf empty v z = refl
 root_leaf s l r d leaf (node m a b) v z = absurd (omega (arith, v.0.is_row, z))
 
-has_top : (s : State) (l : ℕ → Side → ℕ) (t : Tree) (n : ℕ) → Reads s l t → Stands n t → root t ≢ 0
+has_top : (s : State) (l : ℕ → Side → ℕ) (t : Tree) (n : ℕ) → Represents s l t → Stands n t → root t ≢ 0
 has_top s l empty n v h z = h
 has_top s l (node m a b) n v h z = omega (arith, v.0.is_row, z)
 
@@ -261,7 +261,7 @@ leaf_tree s parent d row x ok changes_ok may =
     let leaf : Node = leaf_of row x in
     let base : ℕ → Side → ℕ = changed s.links row (s.link row) in
     let l' : ℕ → Side → ℕ = relink base parent d row in
-    let none : s.links parent d ≡ 0 = sym (subst (Fits s parent d) may.no_change (changes_ok.fits parent d (place may.parent_live))) ∙ may.no_child in
+    let none : s.links parent d ≡ 0 = sym (subst (LinkFits s parent d) may.no_change (changes_ok.fits parent d (place may.parent_live))) ∙ may.no_child in
     let says : Says s leaf = record { is_row = may.is_row; key = may.key; value = may.value; height = may.height } in
     let apart : row ≢ parent = not_parent may.parent_live in
     let ends : (e : Side) → l' row e ≡ 0 = λ e. relink_other base parent d row row e apart ∙ ap (λ (f : Side → ℕ). f e) (changed_same s.links row (s.link row)) ∙ may.links e in
@@ -322,7 +322,7 @@ raise_tree s parent p row d raised ok links_ok changes_ok may =
     let l' : ℕ → Side → ℕ = relink two parent p raised in
     let z : row ≢ 0 = (let q = row_positive s s.links s.tree row ok.reads may.live.stands in λ x. omega arith) in
     let zr : raised ≢ 0 = (let q = row_positive s s.links s.tree raised ok.reads may.raised_live.stands in λ x. omega arith) in
-    let child : s.links parent p ≡ row = sym (subst (Fits s parent p) may.no_change (changes_ok.fits parent p (place may.parent_live))) ∙ may.child in
+    let child : s.links parent p ≡ row = sym (subst (LinkFits s parent p) may.no_change (changes_ok.fits parent p (place may.parent_live))) ∙ may.child in
     let away : (n : ℕ) (e : Side) → n ≢ row → n ≢ raised → ((n ≡ parent) × (e ≡ p) → ⊥) → l' n e ≡ s.links n e = λ n e x y w. relink_away two parent p raised n e w ∙ relink_other one raised (other d) row n e y ∙ relink_other s.links row d (s.link row d) n e x in
     let turning : Turning s.links l' row raised d = record {
       is_row = z;

@@ -8,14 +8,14 @@ use Rattle.snap_stamp.specs.Sides.{Toward}
 use Rattle.snap_stamp.specs.declared.side.Side.{Side}
 use Rattle.snap_stamp.specs.declared.side.Side.TheVariants.{Left, Right}
 use Rattle.snap_rule.specs.Tree.Tree.{empty, node}
-use Rattle.snap_rule.specs.State.{State, Change, In, IsShared, IsImage, Reads}
+use Rattle.snap_rule.specs.State.{State, Change, In, IsShared, IsImage, Represents}
 use Rattle.snap_stamp.specs.Stamps.{IsUnmarked, IsUnlinked, IsShrinking}
 use Rattle.snap_rule.specs.State.Change.{plain, unlinking, lowering, raising}
 use Rattle.snap_rule.specs.Position.{OnImage, IsPlaced, Faces, IsStanding}
 use Rattle.snap_rule.specs.ChildCheck.{WasAbsent}
 use Rattle.snap_rule.specs.Reader.{ReaderOk}
 use Rattle.snap_rule.specs.declared.reader.Point.TheVariants.{Standing, NoLink, Linked, Stamped}
-use Rattle.snap_rule.specs.Rule.{TreeOk, LinksOk, ChangesOk, Fits}
+use Rattle.snap_rule.specs.Rule.{TreeOk, LinksOk, ChangesOk, LinkFits}
 use Rattle.snap_rule.proofs.Moments.{now, at_moment}
 use Rattle.snap_rule.proofs.Trees.{child, find_toward, way_toward, way_stands, reads_child, each_child, find_none, finds_value, SubtreeAt, subtree_at, own_way, row_positive}
 
@@ -23,7 +23,7 @@ use Rattle.snap_rule.proofs.Trees.{child, find_toward, way_toward, way_stands, r
 pub record TreeBelow (s : State) (k r : ℕ) : Type 0 where
   pub part : Tree
   pub top : root part ≡ r
-  pub reads : Reads s s.links part
+  pub reads : Represents s s.links part
   pub finds : find part k ≡ told s.history k
   pub stands : (n : ℕ) → Stands n part → Stands n s.tree
   pub way : (n : ℕ) → OnWay part k n → OnWay s.tree k n
@@ -35,7 +35,7 @@ pub record ImageBelow (s : State) (seen : List Entry) (k r : ℕ) : Type 0 where
   pub tells : AtSome seen s.history (λ p. find part k ≡ told p k)
 
 -- the value of a tree's top row, where it has the key
-pub top_value : (s : State) (l : ℕ → Side → ℕ) (t : Tree) (k c : ℕ) → Reads s l t → root t ≡ c → c ≢ 0 → s.key c ≡ k
+pub top_value : (s : State) (l : ℕ → Side → ℕ) (t : Tree) (k c : ℕ) → Represents s l t → root t ≡ c → c ≢ 0 → s.key c ≡ k
     → s.value c ≡ value_word (find t k)
 top_value s l empty k c r e z q = absurd (z (sym e))
 top_value s l (node m a b) k c r e z q = subst (λ (x : ℕ). s.value x ≡ value_word (find (node m a b) k)) e (finds_value s l m a b k r (ap s.key e ∙ q))
@@ -110,7 +110,7 @@ module _ (s : State) (tree_ok : TreeOk s) (links_ok : LinksOk s) (changes_ok : C
   image_below seen k n d (inr f) o = image_below_child seen k n d o.image f.0 f.1 o.is_image o.tells
 
   -- where a link is in no change but perhaps that of its row's being lowered or raised
-  link_zero : (n v : ℕ) (d : Side) (c : Change) → IsUnmarked v → s.stamp n ≡ v → s.link n d ≡ 0 → Fits s n d c → s.links n d ≡ 0
+  link_zero : (n v : ℕ) (d : Side) (c : Change) → IsUnmarked v → s.stamp n ≡ v → s.link n d ≡ 0 → LinkFits s n d c → s.links n d ≡ 0
   link_zero n v d plain u e z f = sym f ∙ z
   link_zero n v d (unlinking c) u e z f = absurd (f.1 (sym f.0 ∙ z))
   link_zero n v d (lowering c) u e z f = absurd (unmarked_shrinking v u (rw e at f.1))

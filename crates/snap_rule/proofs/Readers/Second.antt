@@ -8,14 +8,14 @@ use Rattle.snap_rule.specs.Tree.{Tree, root, find, Stands, OnWay, value_word, Ea
 use Rattle.snap_stamp.specs.declared.side.Side.{Side}
 use Rattle.snap_stamp.specs.declared.side.Side.TheVariants.{Left, Right}
 use Rattle.snap_rule.specs.Tree.Tree.{empty, node}
-use Rattle.snap_rule.specs.State.{State, Change, In, IsShared, Reads}
+use Rattle.snap_rule.specs.State.{State, Change, In, IsShared, Represents}
 use Rattle.snap_stamp.specs.Stamps.{IsUnmarked, IsUnlinked, IsShrinking}
 use Rattle.snap_rule.specs.State.Change.{plain, unlinking, lowering, raising}
 use Rattle.snap_rule.specs.Position.{OnImage, IsPlaced, IsStanding}
 use Rattle.snap_rule.specs.ChildCheck.{HasTold, IsGone, IsCandidate}
 use Rattle.snap_rule.specs.Reader.{ReaderOk}
 use Rattle.snap_rule.specs.declared.reader.Point.TheVariants.{Stamped, Relinked}
-use Rattle.snap_rule.specs.Rule.{TreeOk, LinksOk, SharingOk, ChangesOk, IsLive, Fits}
+use Rattle.snap_rule.specs.Rule.{TreeOk, LinksOk, SharingOk, ChangesOk, IsLive, LinkFits}
 use Rattle.snap_rule.proofs.Moments.{now, at_moment}
 use Rattle.snap_rule.proofs.Trees.{way_root, each_root}
 use Rattle.snap_rule.proofs.Readers.Loads.{own_told, TreeBelow, ImageBelow, top_value, unmarked_unlinked, unmarked_shrinking, linked_row, tree_row, tree_below, image_below, in_tree, stands_there}
@@ -36,15 +36,15 @@ no_change s changes_ok n d u = go (s.pending n d) refl
 
 -- the word of a shared row's link is as the tree has it
 pub plain_word : (s : State) → ChangesOk s → (n : ℕ) (d : Side) → Stands n s.tree → IsShared s n → s.link n d ≡ s.links n d
-plain_word s changes_ok n d h u = subst (Fits s n d) (no_change s changes_ok n d u) (changes_ok.fits n d (inr h))
+plain_word s changes_ok n d h u = subst (LinkFits s n d) (no_change s changes_ok n d u) (changes_ok.fits n d (inr h))
 
 module _ (s : State) (tree_ok : TreeOk s) (links_ok : LinksOk s) (sharing_ok : SharingOk s) (changes_ok : ChangesOk s) where
   below_shared : (n : ℕ) (d : Side) (t : Tree) → Stands n s.tree → IsShared s n → s.links n d ≡ root t → root t ≢ 0 → IsShared s (root t)
   below_shared n d t h u e z = let q = plain_word s changes_ok n d h u ∙ e in subst (IsShared s) q (sharing_ok.links n d h u (λ x. z (sym q ∙ x)))
 
   -- the part of the tree at a shared row is its image
-  pub shared_part : (t : Tree) → Reads s s.links t → ((n : ℕ) → Stands n t → Stands n s.tree) → (root t ≢ 0 → IsShared s (root t))
-      → Reads s s.link t × EachRow (λ r. In r s.linked × IsShared s r) t
+  pub shared_part : (t : Tree) → Represents s s.links t → ((n : ℕ) → Stands n t → Stands n s.tree) → (root t ≢ 0 → IsShared s (root t))
+      → Represents s s.link t × EachRow (λ r. In r s.linked × IsShared s r) t
   shared_part empty r f u = (tt, tt)
   shared_part (node m a b) r f u =
       let h : Stands m.row s.tree = f m.row (inl refl) in
@@ -65,7 +65,7 @@ module _ (s : State) (tree_ok : TreeOk s) (links_ok : LinksOk s) (sharing_ok : S
   tree_told seen k c b z t e = now seen s.history (λ p. s.value c ≡ value_word (told p k)) b (top_value s s.links t.part k c t.reads t.top z e ∙ ap value_word t.finds)
 
   in_change : (seen : List Entry) (k n v c w : ℕ) (d : Side) (x : Change) → Begins seen s.history → IsStanding s seen k n v d → s.stamp n ≡ v
-      → s.link n d ≡ c → c ≢ 0 → IsUnmarked w → (IsUnlinked (s.stamp c) → IsGone s seen c) → (n ≡ 0) ⊎ OnWay s.tree k n → Fits s n d x
+      → s.link n d ≡ c → c ≢ 0 → IsUnmarked w → (IsUnlinked (s.stamp c) → IsGone s seen c) → (n ≡ 0) ⊎ OnWay s.tree k n → LinkFits s n d x
       → IsCandidate s seen k c w
   in_change seen k n v c w d plain b h e q z u f p g =
       let t : TreeBelow s k c = subst (TreeBelow s k) (sym g ∙ q) (tree_below s tree_ok links_ok changes_ok k n d h.faces p) in

@@ -8,7 +8,7 @@ use Rattle.snap_stamp.specs.Sides.{Toward}
 use Rattle.snap_stamp.specs.declared.side.Side.{Side}
 use Rattle.snap_stamp.specs.declared.side.Side.TheVariants.{Left, Right}
 use Rattle.snap_rule.specs.Tree.Tree.{empty, node}
-use Rattle.snap_rule.specs.State.{State, Reads}
+use Rattle.snap_rule.specs.State.{State, Represents}
 use Rattle.snap_rule.specs.TreeChanges.{with_value, with_height, renamed, one_of, without, turned, rotated, first_on, grown_below, grown}
 use Rattle.snap_rule.proofs.Trees.{child, find_here, find_left, find_right, reads_child, root_empty}
 use Rattle.snap_rule.proofs.Trees.Ways.{Thin}
@@ -34,7 +34,7 @@ both_nodes m n a b c d k e v f g = three k m.key
     (λ q. find_left n c d k (omega arith) ∙ f ∙ sym (find_left m a b k q))
     (λ q. find_right n c d k (omega arith) ∙ g ∙ sym (find_right m a b k q))
 
-pub find_value_other : (s : State) (l : ℕ → Side → ℕ) (r : ℕ) (o : Option ℕ) (t : Tree) (k : ℕ) → Reads s l t → k ≢ s.key r
+pub find_value_other : (s : State) (l : ℕ → Side → ℕ) (r : ℕ) (o : Option ℕ) (t : Tree) (k : ℕ) → Represents s l t → k ≢ s.key r
     → find (with_value r o t) k ≡ find t k
 find_value_other s l r o empty k h z = refl
 find_value_other s l r o (node m a b) k h z =
@@ -42,7 +42,7 @@ find_value_other s l r o (node m a b) k h z =
     (λ q. let g : eqb m.row r ≡ false = ne_eqb m.row r (λ e. z (sym (sym (ap s.key e) ∙ h.0.key ∙ q))) in rw g)
     (find_value_other s l r o a k h.3 z) (find_value_other s l r o b k h.4 z)
 
-pub find_value_same : (s : State) (l : ℕ → Side → ℕ) (r : ℕ) (o : Option ℕ) (t : Tree) (k : ℕ) → Reads s l t → s.key r ≡ k → OnWay t k r
+pub find_value_same : (s : State) (l : ℕ → Side → ℕ) (r : ℕ) (o : Option ℕ) (t : Tree) (k : ℕ) → Represents s l t → s.key r ≡ k → OnWay t k r
     → find (with_value r o t) k ≡ o
 find_value_same s l r o empty k h z w = absurd w
 find_value_same s l r o (node m a b) k h z (inl e) =
@@ -73,7 +73,7 @@ find_neither : (low high : ℕ) (m : Node) (a b : Tree) (k : ℕ) → Between lo
 find_neither low high m empty b k h z = find_low (m.key + 1) high b k h.3 (omega arith)
 find_neither low high m (node p x y) b k h z = find_high low m.key (node p x y) k h.2 (omega arith)
 
-pub find_without : (s : State) (l : ℕ → Side → ℕ) (r low high : ℕ) (t : Tree) (k : ℕ) → Between low high t → Reads s l t → Thin r t → s.value r ≡ 0
+pub find_without : (s : State) (l : ℕ → Side → ℕ) (r low high : ℕ) (t : Tree) (k : ℕ) → Between low high t → Represents s l t → Thin r t → s.value r ≡ 0
     → find (without r t) k ≡ find t k
 find_without s l r low high empty k h v c z = refl
 find_without s l r low high (node m a b) k h v c z = dite (ℕ_discrete m.row r)
@@ -145,14 +145,14 @@ first_on_same Right m a empty l c t = find_right m a (node l empty empty) l.key 
 first_on_same Right m a (node p x y) l c t = cc
 
 module _ (s : State) (links : ℕ → Side → ℕ) (r : ℕ) (d : Side) (l : Node) (none : links r d ≡ 0) where
-  grown_top : (m : Node) (a b : Tree) → Reads s links (node m a b) → r ≡ m.row → Toward d l.key (s.key r)
+  grown_top : (m : Node) (a b : Tree) → Represents s links (node m a b) → r ≡ m.row → Toward d l.key (s.key r)
       → find (grown_below r d l (node m a b)) l.key ≡ l.value
   grown_top m a b v e t =
       let g : eqb m.row r ≡ true = eq-eqb m.row r (sym e) in
       let c = reads_child s links d m a b v in
       rw g (first_on_same d m a b l (root_empty s links (child d a b) c.1 (sym c.0 ∙ ap (λ (x : ℕ). links x d) (sym e) ∙ none)) (subst (Toward d l.key) (ap s.key e ∙ v.0.key) t))
 
-  grown_below_same : (t : Tree) → Reads s links t → OnWay t l.key r → Toward d l.key (s.key r) → find (grown_below r d l t) l.key ≡ l.value
+  grown_below_same : (t : Tree) → Represents s links t → OnWay t l.key r → Toward d l.key (s.key r) → find (grown_below r d l t) l.key ≡ l.value
   grown_below_same empty v w t = absurd w
   grown_below_same (node m a b) v (inl e) t = grown_top m a b v e t
   grown_below_same (node m a b) v (inr (inl w)) t = dite (ℕ_discrete m.row r)
@@ -162,7 +162,7 @@ module _ (s : State) (links : ℕ → Side → ℕ) (r : ℕ) (d : Side) (l : No
       (λ e. grown_top m a b v (sym e) t)
       (λ o. let g : eqb m.row r ≡ false = ne_eqb m.row r o in rw g (find_right m (grown_below r d l a) (grown_below r d l b) l.key w.0 ∙ grown_below_same b v.4 w.1 t))
 
-  pub find_grown_same : (t : Tree) → Reads s links t → (root t ≡ 0) ⊎ OnWay t l.key r × Toward d l.key (s.key r)
+  pub find_grown_same : (t : Tree) → Represents s links t → (root t ≡ 0) ⊎ OnWay t l.key r × Toward d l.key (s.key r)
       → find (grown r d l t) l.key ≡ l.value
   find_grown_same empty v w = find_here l empty empty l.key refl
   find_grown_same (node m a b) v (inl z) = absurd (omega (arith, v.0.is_row, z))

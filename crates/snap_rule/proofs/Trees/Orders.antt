@@ -7,7 +7,7 @@ use Rattle.snap_stamp.specs.Sides.{Toward}
 use Rattle.snap_stamp.specs.declared.side.Side.{Side}
 use Rattle.snap_stamp.specs.declared.side.Side.TheVariants.{Left, Right}
 use Rattle.snap_rule.specs.Tree.Tree.{empty, node}
-use Rattle.snap_rule.specs.State.{State, Reads}
+use Rattle.snap_rule.specs.State.{State, Represents}
 use Rattle.snap_rule.specs.TreeChanges.{with_value, with_height, renamed, one_of, without, turned, rotated, first_on, grown_below, grown}
 use Rattle.snap_rule.proofs.Trees.{way_stands}
 use Rattle.snap_rule.proofs.Trees.Unique.{left_key, right_key, sides_apart}
@@ -75,7 +75,7 @@ first_on_ordered Right low high m a empty l h t x y = (h.0, h.1, h.2, (omega ari
 first_on_ordered Right low high m a (node p u v) l h t x y = h
 
 module _ (s : State) (links : ℕ → Side → ℕ) (r : ℕ) (d : Side) (l : Node) where
-  grown_below_ordered : (low high : ℕ) (t : Tree) → Between low high t → Reads s links t → OnWay t l.key r → Toward d l.key (s.key r) → low ≤ l.key
+  grown_below_ordered : (low high : ℕ) (t : Tree) → Between low high t → Represents s links t → OnWay t l.key r → Toward d l.key (s.key r) → low ≤ l.key
       → l.key < high
       → Between low high (grown_below r d l t)
   grown_below_ordered low high empty h v w t x y = absurd w
@@ -95,7 +95,7 @@ module _ (s : State) (links : ℕ → Side → ℕ) (r : ℕ) (d : Side) (l : No
       let c : grown_below r d l a ≡ a = not_grown r d l a (λ j. sides_apart s links low high m a b r h v j i) in
       rw (g, c) (h.0, h.1, h.2, grown_below_ordered (m.key + 1) high b h.3 v.4 w.1 t (let z = w.0 in omega arith) y)
 
-  pub grown_ordered : (low high : ℕ) (t : Tree) → Between low high t → Reads s links t → (root t ≡ 0) ⊎ OnWay t l.key r × Toward d l.key (s.key r)
+  pub grown_ordered : (low high : ℕ) (t : Tree) → Between low high t → Represents s links t → (root t ≡ 0) ⊎ OnWay t l.key r × Toward d l.key (s.key r)
       → low ≤ l.key → l.key < high
       → Between low high (grown r d l t)
   grown_ordered low high empty h v w x y = (x, y, tt, tt)

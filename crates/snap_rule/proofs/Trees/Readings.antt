@@ -8,13 +8,13 @@ use Rattle.snap_stamp.specs.Sides.{other}
 use Rattle.snap_stamp.specs.declared.side.Side.{Side}
 use Rattle.snap_stamp.specs.declared.side.Side.TheVariants.{Left, Right}
 use Rattle.snap_rule.specs.Tree.Tree.{empty, node}
-use Rattle.snap_rule.specs.State.{State, Says, Reads}
+use Rattle.snap_rule.specs.State.{State, Says, Represents}
 use Rattle.snap_rule.specs.TreeChanges.{with_value, with_height, renamed, one_of, without, turned, rotated, first_on, grown_below, grown}
 use Rattle.snap_rule.proofs.Trees.{child, reads_child, reads_same}
 use Rattle.snap_rule.proofs.Trees.Unique.{child_stands, left_key, right_key}
 
 -- the same words, but for links
-links_same : (s : State) (l l' : ℕ → Side → ℕ) (t : Tree) → Reads s l t → ((n : ℕ) (e : Side) → Stands n t → l' n e ≡ l n e) → Reads s l' t
+links_same : (s : State) (l l' : ℕ → Side → ℕ) (t : Tree) → Represents s l t → ((n : ℕ) (e : Side) → Stands n t → l' n e ≡ l n e) → Represents s l' t
 links_same s l l' t r f = reads_same s s l l' t r (λ n h. (refl, refl, refl, λ e. f n e h))
 
 module _ (s : State) (l l' : ℕ → Side → ℕ) where
@@ -30,8 +30,8 @@ module _ (s : State) (l l' : ℕ → Side → ℕ) where
       (λ y. f.1 (λ x. y (sym h ∙ x)) ∙ h ∙ sym ((root_renamed r q t z).1 y))
 
   module _ (r q : ℕ) (z : r ≢ 0) (pos : 0 < q) (key : s.key q ≡ s.key r) (value : s.value q ≡ s.value r) (height : s.height q ≡ s.height r) (links : (e : Side) → l' q e ≡ l r e) (own : (e : Side) → l r e ≢ r) where
-    pub reads_renamed : (t : Tree) → Reads s l t → ((n : ℕ) (e : Side) → Stands n t → n ≢ r → (l n e ≡ r → l' n e ≡ q) × (l n e ≢ r → l' n e ≡ l n e))
-        → Reads s l' (renamed r q t)
+    pub reads_renamed : (t : Tree) → Represents s l t → ((n : ℕ) (e : Side) → Stands n t → n ≢ r → (l n e ≡ r → l' n e ≡ q) × (l n e ≢ r → l' n e ≡ l n e))
+        → Represents s l' (renamed r q t)
     reads_renamed empty v f = tt
     reads_renamed (node m a b) v f =
         let x = reads_renamed a v.3 (λ n e h. f n e (inr (inl h))) in
@@ -44,50 +44,50 @@ module _ (s : State) (l l' : ℕ → Side → ℕ) where
         rw g (record { is_row = v.0.is_row; key = v.0.key; value = v.0.value; height = v.0.height }, renamed_link r q m.row Left a z v.1 (f m.row Left (inl refl) e), renamed_link r q m.row Right b z v.2 (f m.row Right (inl refl) e), x, y))
 
   -- without a row that has one child, or none
-  one_of_root : (a b : Tree) (r only : ℕ) → Reads s l a → l r Left ≡ root a → l r Right ≡ root b → (l r Left ≡ 0 → only ≡ l r Right)
+  one_of_root : (a b : Tree) (r only : ℕ) → Represents s l a → l r Left ≡ root a → l r Right ≡ root b → (l r Left ≡ 0 → only ≡ l r Right)
       → (l r Left ≢ 0 → only ≡ l r Left)
       → root (one_of a b) ≡ only
   one_of_root empty b r only v h i f g = sym i ∙ sym (f h)
   one_of_root (node m x y) b r only v h i f g = sym h ∙ sym (g (λ q. let p = v.0.is_row in omega (arith, h, q)))
 
   module _ (r only : ℕ) (z : r ≢ 0) (first : l r Left ≡ 0 → only ≡ l r Right) (second : l r Left ≢ 0 → only ≡ l r Left) where
-    pub root_without : (t : Tree) → Reads s l t → (root t ≡ r → root (without r t) ≡ only) × (root t ≢ r → root (without r t) ≡ root t)
+    pub root_without : (t : Tree) → Represents s l t → (root t ≡ r → root (without r t) ≡ only) × (root t ≢ r → root (without r t) ≡ root t)
     root_without empty v = ((λ e. absurd (z (sym e))), (λ e. refl))
     root_without (node m a b) v = (
       (λ e. let g : eqb m.row r ≡ true = eq-eqb m.row r e in rw g (one_of_root a b r only v.3 (ap (λ (w : ℕ). l w Left) (sym e) ∙ v.1) (ap (λ (w : ℕ). l w Right) (sym e) ∙ v.2) first second)),
       (λ e. let g : eqb m.row r ≡ false = ne_eqb m.row r e in rw g),
     )
 
-    without_link : (n : ℕ) (e : Side) (t : Tree) → Reads s l t → l n e ≡ root t → (l n e ≡ r → l' n e ≡ only) × (l n e ≢ r → l' n e ≡ l n e)
+    without_link : (n : ℕ) (e : Side) (t : Tree) → Represents s l t → l n e ≡ root t → (l n e ≡ r → l' n e ≡ only) × (l n e ≢ r → l' n e ≡ l n e)
         → l' n e ≡ root (without r t)
     without_link n e t v h f = dite (ℕ_discrete (root t) r)
         (λ y. f.0 (h ∙ y) ∙ sym ((root_without t v).0 y))
         (λ y. f.1 (λ x. y (sym h ∙ x)) ∙ h ∙ sym ((root_without t v).1 y))
 
-    reads_one_of : (a b : Tree) → Reads s l' a → Reads s l' b → Reads s l' (one_of a b)
+    reads_one_of : (a b : Tree) → Represents s l' a → Represents s l' b → Represents s l' (one_of a b)
     reads_one_of empty b x y = y
     reads_one_of (node m u v) b x y = x
 
     -- below a row nothing leads to it
-    below_left : (low high : ℕ) (m : Node) (a b : Tree) → Between low high (node m a b) → Reads s l (node m a b) → m.row ≡ r
+    below_left : (low high : ℕ) (m : Node) (a b : Tree) → Between low high (node m a b) → Represents s l (node m a b) → m.row ≡ r
         → ((n : ℕ) (e : Side) → Stands n (node m a b) → n ≢ r → (l n e ≡ r → l' n e ≡ only) × (l n e ≢ r → l' n e ≡ l n e))
-        → Reads s l' a
+        → Represents s l' a
     below_left low high m a b o v q f = links_same s l l' a v.3 (λ n e h. (f n e (inr (inl h)) (λ x. away n h x)).1 (λ x. away (l n e) (child_stands s l a n e v.3 h (λ w. z (sym x ∙ w))) x))
       where
         away : (n : ℕ) → Stands n a → n ≢ r
         away n h x = let k = left_key s l low high m a b n o v h in let w = ap s.key (x ∙ sym q) in omega arith
 
-    below_right : (low high : ℕ) (m : Node) (a b : Tree) → Between low high (node m a b) → Reads s l (node m a b) → m.row ≡ r
+    below_right : (low high : ℕ) (m : Node) (a b : Tree) → Between low high (node m a b) → Represents s l (node m a b) → m.row ≡ r
         → ((n : ℕ) (e : Side) → Stands n (node m a b) → n ≢ r → (l n e ≡ r → l' n e ≡ only) × (l n e ≢ r → l' n e ≡ l n e))
-        → Reads s l' b
+        → Represents s l' b
     below_right low high m a b o v q f = links_same s l l' b v.4 (λ n e h. (f n e (inr (inr h)) (λ x. away n h x)).1 (λ x. away (l n e) (child_stands s l b n e v.4 h (λ w. z (sym x ∙ w))) x))
       where
         away : (n : ℕ) → Stands n b → n ≢ r
         away n h x = let k = right_key s l low high m a b n o v h in let w = ap s.key (x ∙ sym q) in omega arith
 
-    pub reads_without : (low high : ℕ) (t : Tree) → Between low high t → Reads s l t
+    pub reads_without : (low high : ℕ) (t : Tree) → Between low high t → Represents s l t
         → ((n : ℕ) (e : Side) → Stands n t → n ≢ r → (l n e ≡ r → l' n e ≡ only) × (l n e ≢ r → l' n e ≡ l n e))
-        → Reads s l' (without r t)
+        → Represents s l' (without r t)
     reads_without low high empty o v f = tt
     reads_without low high (node m a b) o v f =
         let x = reads_without low m.key a o.2 v.3 (λ n e h. f n e (inr (inl h))) in
@@ -119,7 +119,7 @@ module _ (s : State) (l l' : ℕ → Side → ℕ) (r raised : ℕ) where
   root_turned Right m a empty h = absurd (h refl)
   root_turned Right m a (node p x y) h = refl
 
-  pub root_rotated : (d : Side) → Turning l l' r raised d → (t : Tree) → Reads s l t
+  pub root_rotated : (d : Side) → Turning l l' r raised d → (t : Tree) → Represents s l t
       → (root t ≡ r → root (rotated r d t) ≡ raised) × (root t ≢ r → root (rotated r d t) ≡ root t)
   root_rotated d w empty v = ((λ e. absurd (w.is_row (sym e))), (λ e. refl))
   root_rotated d w (node m a b) v = (
@@ -128,19 +128,19 @@ module _ (s : State) (l l' : ℕ → Side → ℕ) (r raised : ℕ) where
     (λ e. let g : eqb m.row r ≡ false = ne_eqb m.row r e in rw g),
   )
 
-  rotated_link : (d : Side) → Turning l l' r raised d → (n : ℕ) (e : Side) (t : Tree) → Reads s l t → l n e ≡ root t
+  rotated_link : (d : Side) → Turning l l' r raised d → (n : ℕ) (e : Side) (t : Tree) → Represents s l t → l n e ≡ root t
       → (l n e ≡ r → l' n e ≡ raised) × (l n e ≢ r → l' n e ≡ l n e)
       → l' n e ≡ root (rotated r d t)
   rotated_link d w n e t v h f = dite (ℕ_discrete (root t) r)
       (λ y. f.0 (h ∙ y) ∙ sym ((root_rotated d w t v).0 y))
       (λ y. f.1 (λ x. y (sym h ∙ x)) ∙ h ∙ sym ((root_rotated d w t v).1 y))
 
-  away_links : (u : Tree) → r ≢ 0 → Reads s l u → ((n : ℕ) → Stands n u → (n ≢ r) × (n ≢ raised)) → Elsewhere l l' r raised u → Reads s l' u
+  away_links : (u : Tree) → r ≢ 0 → Represents s l u → ((n : ℕ) → Stands n u → (n ≢ r) × (n ≢ raised)) → Elsewhere l l' r raised u → Represents s l' u
   away_links u z v k f = links_same s l l' u v (λ n e h. (f n e h (k n h).0 (k n h).1).1 (λ x. (k (l n e) (child_stands s l u n e v h (λ w. z (sym x ∙ w)))).0 x))
 
   turned_left : (low high : ℕ) (m p : Node) (x y b : Tree) → Turning l l' r raised Left → Between low high (node m (node p x y) b)
-      → Reads s l (node m (node p x y) b) → m.row ≡ r → p.row ≡ raised → Elsewhere l l' r raised (node m (node p x y) b)
-      → Reads s l' (node p x (node m y b))
+      → Represents s l (node m (node p x y) b) → m.row ≡ r → p.row ≡ raised → Elsewhere l l' r raised (node m (node p x y) b)
+      → Represents s l' (node p x (node m y b))
   turned_left low high m p x y b w o v e q f =
       let kp = left_key s l low high m (node p x y) b p.row o v (inl refl) in
       let er = ap s.key e in
@@ -159,8 +159,8 @@ module _ (s : State) (l l' : ℕ → Side → ℕ) (r raised : ℕ) where
       )
 
   turned_right : (low high : ℕ) (m p : Node) (a x y : Tree) → Turning l l' r raised Right → Between low high (node m a (node p x y))
-      → Reads s l (node m a (node p x y)) → m.row ≡ r → p.row ≡ raised → Elsewhere l l' r raised (node m a (node p x y))
-      → Reads s l' (node p (node m a x) y)
+      → Represents s l (node m a (node p x y)) → m.row ≡ r → p.row ≡ raised → Elsewhere l l' r raised (node m a (node p x y))
+      → Represents s l' (node p (node m a x) y)
   turned_right low high m p a x y w o v e q f =
       let kp = right_key s l low high m a (node p x y) p.row o v (inl refl) in
       let er = ap s.key e in
@@ -178,22 +178,22 @@ module _ (s : State) (l l' : ℕ → Side → ℕ) (r raised : ℕ) where
         away_links y w.is_row v.4.4 (λ n h. let k = right_key s l (m.key + 1) high p x y n o.3 v.4 h in ((λ c. let g = ap s.key c in omega arith), (λ c. let g = ap s.key c in omega arith))) (λ n c h. f n c (inr (inr (inr (inr h))))),
       )
 
-  turned_reads : (d : Side) (low high : ℕ) (m : Node) (a b : Tree) → Turning l l' r raised d → Between low high (node m a b) → Reads s l (node m a b)
+  turned_reads : (d : Side) (low high : ℕ) (m : Node) (a b : Tree) → Turning l l' r raised d → Between low high (node m a b) → Represents s l (node m a b)
       → m.row ≡ r → Elsewhere l l' r raised (node m a b)
-      → Reads s l' (turned d m a b)
+      → Represents s l' (turned d m a b)
   turned_reads Left low high m empty b w o v e f = absurd (w.raised_is_row (sym w.is_child ∙ ap (λ (c : ℕ). l c Left) (sym e) ∙ v.1))
   turned_reads Left low high m (node p x y) b w o v e f = turned_left low high m p x y b w o v e (sym v.1 ∙ ap (λ (c : ℕ). l c Left) e ∙ w.is_child) f
   turned_reads Right low high m a empty w o v e f = absurd (w.raised_is_row (sym w.is_child ∙ ap (λ (c : ℕ). l c Right) (sym e) ∙ v.2))
   turned_reads Right low high m a (node p x y) w o v e f = turned_right low high m p a x y w o v e (sym v.2 ∙ ap (λ (c : ℕ). l c Right) e ∙ w.is_child) f
 
-  pub reads_rotated : (d : Side) (low high : ℕ) (t : Tree) → Turning l l' r raised d → Between low high t → Reads s l t → root t ≢ raised
+  pub reads_rotated : (d : Side) (low high : ℕ) (t : Tree) → Turning l l' r raised d → Between low high t → Represents s l t → root t ≢ raised
       → ((n : ℕ) (e : Side) → Stands n t → l n e ≡ raised → n ≡ r) → Elsewhere l l' r raised t
-      → Reads s l' (rotated r d t)
+      → Represents s l' (rotated r d t)
   reads_rotated d low high empty w o v top only f = tt
   reads_rotated d low high (node m a b) w o v top only f =
       let below : (c : Side) → m.row ≢ r → root (child c a b) ≢ raised = λ c e q. e (only m.row c (inl refl) ((reads_child s l c m a b v).0 ∙ q)) in
-      let x : m.row ≢ r → Reads s l' (rotated r d a) = λ e. reads_rotated d low m.key a w o.2 v.3 (below Left e) (λ n c h. only n c (inr (inl h))) (λ n c h. f n c (inr (inl h))) in
-      let y : m.row ≢ r → Reads s l' (rotated r d b) = λ e. reads_rotated d (m.key + 1) high b w o.3 v.4 (below Right e) (λ n c h. only n c (inr (inr h))) (λ n c h. f n c (inr (inr h))) in
+      let x : m.row ≢ r → Represents s l' (rotated r d a) = λ e. reads_rotated d low m.key a w o.2 v.3 (below Left e) (λ n c h. only n c (inr (inl h))) (λ n c h. f n c (inr (inl h))) in
+      let y : m.row ≢ r → Represents s l' (rotated r d b) = λ e. reads_rotated d (m.key + 1) high b w o.3 v.4 (below Right e) (λ n c h. only n c (inr (inr h))) (λ n c h. f n c (inr (inr h))) in
       dite (ℕ_discrete m.row r)
       (λ e. let g : eqb m.row r ≡ true = eq-eqb m.row r e in rw g (turned_reads d low high m a b w o v e f))
       (λ e. let g : eqb m.row r ≡ false = ne_eqb m.row r e in
@@ -201,7 +201,7 @@ module _ (s : State) (l l' : ℕ → Side → ℕ) (r raised : ℕ) where
 
 -- with a leaf below a row
 module _ (s : State) (l l' : ℕ → Side → ℕ) (r : ℕ) (leaf : Node) (says : Says s leaf) (ends : (e : Side) → l' leaf.row e ≡ 0) where
-  leaf_reads : Reads s l' (node leaf empty empty)
+  leaf_reads : Represents s l' (node leaf empty empty)
   leaf_reads = (says, ends Left, ends Right, tt, tt)
 
   pub root_grown : (d : Side) (t : Tree) → root (grown_below r d leaf t) ≡ root t
@@ -216,16 +216,16 @@ module _ (s : State) (l l' : ℕ → Side → ℕ) (r : ℕ) (leaf : Node) (says
       top Right a empty = refl
       top Right a (node p x y) = refl
 
-  first_reads : (d : Side) (m : Node) (a b : Tree) → root (child d a b) ≡ 0 → Reads s l (node m a b) → l' m.row d ≡ leaf.row
-      → l' m.row (other d) ≡ l m.row (other d) → Reads s l' a → Reads s l' b
-      → Reads s l' (first_on d m a b leaf)
+  first_reads : (d : Side) (m : Node) (a b : Tree) → root (child d a b) ≡ 0 → Represents s l (node m a b) → l' m.row d ≡ leaf.row
+      → l' m.row (other d) ≡ l m.row (other d) → Represents s l' a → Represents s l' b
+      → Represents s l' (first_on d m a b leaf)
   first_reads Left m empty b z v h i x y = (v.0, h, i ∙ v.2, leaf_reads, y)
   first_reads Left m (node p u w) b z v h i x y = absurd (omega (arith, v.3.0.is_row, z))
   first_reads Right m a empty z v h i x y = (v.0, i ∙ v.1, h, x, leaf_reads)
   first_reads Right m a (node p u w) z v h i x y = absurd (omega (arith, v.4.0.is_row, z))
 
   module _ (d : Side) (none : l r d ≡ 0) (set : l' r d ≡ leaf.row) (rest : (n : ℕ) (e : Side) → n ≢ leaf.row → ((n ≡ r) × (e ≡ d) → ⊥) → l' n e ≡ l n e) where
-    pub reads_grown_below : (low high : ℕ) (t : Tree) → Between low high t → Reads s l t → ¬ Stands leaf.row t → Reads s l' (grown_below r d leaf t)
+    pub reads_grown_below : (low high : ℕ) (t : Tree) → Between low high t → Represents s l t → ¬ Stands leaf.row t → Represents s l' (grown_below r d leaf t)
     reads_grown_below low high empty o v fresh = tt
     reads_grown_below low high (node m a b) o v fresh =
         let own : m.row ≢ leaf.row = λ q. fresh (inl (sym q)) in
@@ -244,7 +244,7 @@ module _ (s : State) (l l' : ℕ → Side → ℕ) (r : ℕ) (leaf : Node) (says
         across Left q = cc
         across Right q = cc
 
-    pub reads_grown : (low high : ℕ) (t : Tree) → Between low high t → Reads s l t → ¬ Stands leaf.row t → Reads s l' (grown r d leaf t)
+    pub reads_grown : (low high : ℕ) (t : Tree) → Between low high t → Represents s l t → ¬ Stands leaf.row t → Represents s l' (grown r d leaf t)
     reads_grown low high empty o v fresh = leaf_reads
     reads_grown low high (node m a b) o v fresh = reads_grown_below low high (node m a b) o v fresh
 
@@ -262,9 +262,9 @@ pub root_height : (r x : ℕ) (t : Tree) → root (with_height r x t) ≡ root t
 root_height r x empty = refl
 root_height r x (node n y w) = refl
 
-pub reads_value : (s s' : State) (l : ℕ → Side → ℕ) (r : ℕ) (o : Option ℕ) (t : Tree) → Reads s l t → ((n : ℕ) → s'.key n ≡ s.key n)
+pub reads_value : (s s' : State) (l : ℕ → Side → ℕ) (r : ℕ) (o : Option ℕ) (t : Tree) → Represents s l t → ((n : ℕ) → s'.key n ≡ s.key n)
     → ((n : ℕ) → s'.height n ≡ s.height n) → s'.value r ≡ value_word o → ((n : ℕ) → n ≢ r → s'.value n ≡ s.value n)
-    → Reads s' l (with_value r o t)
+    → Represents s' l (with_value r o t)
 reads_value s s' l r o empty v key height here there = tt
 reads_value s s' l r o (node m a b) v key height here there = (
   record { is_row = v.0.is_row; key = key m.row ∙ v.0.key; value = word; height = height m.row ∙ v.0.height },
@@ -279,9 +279,9 @@ reads_value s s' l r o (node m a b) v key height here there = (
         (λ e. let g : eqb m.row r ≡ true = eq-eqb m.row r e in rw g (ap s'.value e ∙ here))
         (λ e. let g : eqb m.row r ≡ false = ne_eqb m.row r e in rw g (there m.row e ∙ v.0.value))
 
-pub reads_height : (s s' : State) (l : ℕ → Side → ℕ) (r x : ℕ) (t : Tree) → Reads s l t → ((n : ℕ) → s'.key n ≡ s.key n)
+pub reads_height : (s s' : State) (l : ℕ → Side → ℕ) (r x : ℕ) (t : Tree) → Represents s l t → ((n : ℕ) → s'.key n ≡ s.key n)
     → ((n : ℕ) → s'.value n ≡ s.value n) → s'.height r ≡ x → ((n : ℕ) → n ≢ r → s'.height n ≡ s.height n)
-    → Reads s' l (with_height r x t)
+    → Represents s' l (with_height r x t)
 reads_height s s' l r x empty v key value here there = tt
 reads_height s s' l r x (node m a b) v key value here there = (
   record { is_row = v.0.is_row; key = key m.row ∙ v.0.key; value = value m.row ∙ v.0.value; height = word },

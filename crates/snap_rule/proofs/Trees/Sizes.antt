@@ -6,7 +6,7 @@ use Rattle.std.proofs.lemmas.List.Folds.{list_any-append}
 use Rattle.std.proofs.lemmas.Map.Steps.{length-le_from_distinct_below}
 use Rattle.std.specs.List.{AllByRecursion, IsDistinct, list_any}
 use Rattle.snap_rule.specs.Rule.{TableOk}
-use Rattle.snap_rule.specs.State.{State, In, Reads}
+use Rattle.snap_rule.specs.State.{State, In, Represents}
 use Rattle.snap_rule.specs.Tree.{Tree, Between, Stands, depth, size, entry, pairs}
 use Rattle.snap_rule.specs.Tree.Tree.{empty, node}
 use Rattle.snap_rule.proofs.Trees.{row_positive}
@@ -67,7 +67,7 @@ stands_listed q (node m a b) h = here (eqb q m.row) (eqb-true q m.row) (sym (ap 
     here false f e g k = below (list_any (eqb q) (rows_in a)) (list_any (eqb q) (rows_in b)) g k e
 
 module _ (s : State) (l : ℕ → Side → ℕ) where
-  distinct_rows : (low high : ℕ) (t : Tree) → Between low high t → Reads s l t → IsDistinct eqb (rows_in t)
+  distinct_rows : (low high : ℕ) (t : Tree) → Between low high t → Represents s l t → IsDistinct eqb (rows_in t)
   unfolding IsDistinct
   distinct_rows low high empty o r = tt
   distinct_rows low high (node m a b) o r = (
@@ -78,7 +78,7 @@ module _ (s : State) (l : ℕ → Side → ℕ) where
         (all_rows (λ x. AllByRecursion (λ y. eqb x y ≡ false) (rows_in b)) a (λ n h. all_rows (λ y. eqb n y ≡ false) b (λ k i. ne_eqb n k (λ e. sides_apart s l low high m a b k o r (subst (λ (z : ℕ). Stands z a) e h) i)))),
   )
 
-  pub size_low : (low high : ℕ) (t : Tree) (next : ℕ) → Between low high t → Reads s l t → ((n : ℕ) → Stands n t → n ≤ next) → size t ≤ next
+  pub size_low : (low high : ℕ) (t : Tree) (next : ℕ) → Between low high t → Represents s l t → ((n : ℕ) → Stands n t → n ≤ next) → size t ≤ next
   unfolding IsDistinct
   size_low low high t next o r h =
       let all : List ℕ = 0 ∷ rows_in t in

@@ -6,7 +6,7 @@ use Rattle.snap_rule.specs.Tree.{Node, Tree, OnWay, Between}
 use Rattle.snap_stamp.specs.declared.side.Side.{Side}
 use Rattle.snap_stamp.specs.declared.side.Side.TheVariants.{Left, Right}
 use Rattle.snap_rule.specs.Tree.Tree.{empty, node}
-use Rattle.snap_rule.specs.State.{State, Reads}
+use Rattle.snap_rule.specs.State.{State, Represents}
 use Rattle.snap_rule.specs.TreeChanges.{with_value, renamed, one_of, without, turned, rotated, with_height, first_on, grown_below, grown}
 use Rattle.snap_rule.proofs.Trees.{root_empty}
 
@@ -27,7 +27,7 @@ abbrev pub Thin : ℕ → Tree → Type 0
 Thin r empty = Unit {0}
 Thin r (node m a b) = (m.row ≡ r → (a ≡ empty) ⊎ (b ≡ empty)) × Thin r a × Thin r b
 
-pub thin : (s : State) (l : ℕ → Side → ℕ) (r : ℕ) (t : Tree) → Reads s l t → (l r Left ≡ 0) ⊎ (l r Right ≡ 0) → Thin r t
+pub thin : (s : State) (l : ℕ → Side → ℕ) (r : ℕ) (t : Tree) → Represents s l t → (l r Left ≡ 0) ⊎ (l r Right ≡ 0) → Thin r t
 thin s l r empty h c = tt
 thin s l r (node m a b) h c = (one c, thin s l r a h.3 c, thin s l r b h.4 c)
   where

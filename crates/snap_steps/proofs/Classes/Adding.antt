@@ -39,9 +39,9 @@ use Rattle.snap_steps.specs.declared.rule.About.{About}
 use Rattle.snap_steps.proofs.EachView.{each_more, total_more, each_one, each_split}
 use Rattle.snap_steps.specs.Memory.{empty_row, words_of_rows, row, field, Row, Memory}
 use Rattle.snap_steps.specs.States.{state_of, state_with}
-use Rattle.snap_steps.specs.Rule.Apart.{IsOwn, KnowsOwn}
+use Rattle.snap_steps.specs.Rule.Apart.{OwnsUnlinked, KnowsOwn}
 use Rattle.snap_steps.specs.Rule.Notes.{KnowsHeader}
-use Rattle.snap_steps.specs.Rule.Gate.{IsAt}
+use Rattle.snap_steps.specs.Rule.Gate.{KnowsGate}
 use Rattle.snap_steps.specs.Rule.Uses.{HasFewUses}
 use Rattle.snap_steps.specs.Rule.Locks.{OwnsLocks, KnowsRows, is_taken}
 use Rattle.snap_steps.specs.Rule.Ways.{AllLinked, IsOnWay}
@@ -182,7 +182,7 @@ starts about words few_rows few_passes zeros =
       counted = record { all = refl; few = omega arith };
       drawn = record { once = λ r above low. absurd (omega arith); none_later = λ r l. refl; none_zero = refl; all = refl };
       notes = each_one (KnowsHeader 0 0) v record { notes_are = tt; handed_is = omega arith; epochs_are = omega arith; drawn_is = omega arith };
-      gated = record { half = refl; one = omega arith; at = each_one (λ u. IsAt 0 u.stage) v tt; quiet = λ some. refl };
+      gated = record { half = refl; one = omega arith; at = each_one (λ u. KnowsGate 0 u.stage) v tt; quiet = λ some. refl };
       used = record { enough = omega arith; few = each_one HasFewUses v (omega arith, tt) };
       table = subst TableOk (sym state_is) opens.0;
       writers = refl;
@@ -205,7 +205,7 @@ starts about words few_rows few_passes zeros =
       marked = λ n none z. let zero_stamp : IsShrinking 0 = subst (λ (x : Row). IsShrinking x.stamp) (row_empty (about.rows + 1) n) z in omega (arith, zero_stamp);
       cut = refl;
       acting = each_one ActsAsPass v (λ _. (refl, refl, refl));
-      apart = record { low = λ r l. absurd (omega arith); own = each_one (IsOwn []) v (λ r l. absurd (omega arith)); fresh = λ r l z. (ap (λ (x : Row). x.lock) (row_empty (about.rows + 1) r), ap (λ (x : Row). x.stamp) (row_empty (about.rows + 1) r)); wrote = each_one (KnowsOwn m.rows) v tt };
+      apart = record { low = λ r l. absurd (omega arith); own = each_one (OwnsUnlinked []) v (λ r l. absurd (omega arith)); fresh = λ r l z. (ap (λ (x : Row). x.lock) (row_empty (about.rows + 1) r), ap (λ (x : Row). x.stamp) (row_empty (about.rows + 1) r)); wrote = each_one (KnowsOwn m.rows) v tt };
     }
   where
     none_at : (j : ℕ) → debts_of (opener about.rows about.passes 0 ∷ []) j ≡ no_debt

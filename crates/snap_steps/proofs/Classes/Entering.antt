@@ -11,7 +11,7 @@ use Rattle.snap_rule.specs.Debt.Changes.{DebtDoing}
 use Rattle.snap_rule.specs.Updates as updates
 use Rattle.snap_steps.proofs.Parts.Debts.{owed_after, debts_known}
 use Rattle.snap_steps.proofs.Parts.Heights.{LeavesHeights, heights_kept}
-use Rattle.std.proofs.Common.{◌≡◌, ℕ, ◌+◌, ◌<◌, Bool, true, false, List, [], ◌∷◌, ◌++◌, length, set, sym, ap, ◌∙◌, subst, arith, length-append, zero, suc, refl, Some, None, ◌≢◌}
+use Rattle.std.proofs.Common.{◌≡◌, ℕ, ◌+◌, ◌<◌, true, false, List, [], ◌∷◌, ◌++◌, set, sym, ap, ◌∙◌, arith, length-append, zero, suc, refl, Some, None, ◌≢◌}
 use lib.ListN.{get_elem?}
 use mathlib.Core.Option.{some}
 use Rattle.snap_model.specs.History.{told, call_key, call_value}
@@ -32,7 +32,7 @@ use Rattle.snap_steps.specs.Rule.Apart.{AreApart}
 use Rattle.snap_steps.specs.Each.{Each}
 use Rattle.snap_steps.specs.Rule.Notes.{KnowsHeader}
 use Rattle.snap_steps.specs.Rule.Words.{IsMemory, KnowsAbout}
-use Rattle.snap_steps.specs.Rule.Gate.{IsAt}
+use Rattle.snap_steps.specs.Rule.Gate.{KnowsGate}
 use Rattle.snap_steps.specs.Rule.Locks.{AreLocked, KnowsRows}
 use Rattle.snap_steps.specs.Rule.Ways.{AllLinked, IsOnWay}
 use Rattle.snap_steps.specs.Rule.Epochs.{AllAre, KnowsEpoch}
@@ -101,7 +101,7 @@ entering about words views k id v at words' rows' e b reached own wrote knows de
       notes = each_stays views id v w at (KnowsHeader k.m.next k.m.epoch) k.notes (λ p. p);
       gated = gated_moves views id v w at k.m.gate k.m.left k.m.gate k.m.left g (omega arith) (omega (arith, g.one))
           (λ some_quiet. omega (arith, total-set (λ u. in_write u.stage) views id v w at, g.quiet (omega (arith, total-set (λ u. is_quiet u.stage) views id v w at))))
-          (each_stays views id v w at (λ u. IsAt k.m.gate u.stage) g.at (λ p. tt));
+          (each_stays views id v w at (λ u. KnowsGate k.m.gate u.stage) g.at (λ p. tt));
       used = used_moves views id v w at k.m.gate k.m.epoch k.m.gate k.m.epoch k.used refl refl refl (omega arith) (k.used.few id v at).0;
       locked = locked;
       known = known;

@@ -51,7 +51,7 @@ use Rattle.snap_steps.proofs.Parts.Drawn.{drawn_stays}
 use Rattle.snap_steps.proofs.Parts.Names.{named_stays}
 use Rattle.snap_steps.proofs.Parts.Locks.{locked_stays}
 use Rattle.snap_steps.proofs.Parts.History.{history_stays}
-use Rattle.snap_steps.specs.Steps.Header.{noted, handed_after, epochs_after}
+use Rattle.snap_steps.specs.Steps.Header.{word_noted, handed_after, epochs_after}
 use Rattle.snap_steps.proofs.Memories.{loaded}
 use Rattle.snap_steps.proofs.Parts.Gate.{gated_stays}
 use Rattle.snap_steps.proofs.Parts.Uses.{used_stays, cut_stays}
@@ -128,7 +128,7 @@ turning about words views k id v at words' m' notes handed epochs stage uses pre
 
 -- a step that writes no word and leaves a true note
 pub noting : (about : About) (words : List ℕ) (views : List View) (k : Kept about words views) (i id : ℕ) (v : View) (n : WordNote) → get_elem? views id ≡ some v → IsTrueNote k.m.next k.m.epoch n
-    → Kept about (set words i (get_or words i 0)) (set views id (noted v n))
+    → Kept about (set words i (get_or words i 0)) (set views id (word_noted v n))
 noting about words views k i id v n at is =
     turning about words views k id v at (set words i (get_or words i 0)) k.m (v.noted.notes ++ n ∷ []) (handed_after v.noted.handed n) (epochs_after v.noted.epochs n) v.stage v.uses v.words.present v.fresh.copies v.debt v.way.reads v.way.place (loaded k.memory i) refl refl (header_more k.m.next k.m.epoch v n (k.notes id v at) is) refl (omega arith) refl (k.locked.writing id v at) (k.present id v at)
-    (gated_stays views id v (noted v n) at k.m.gate k.m.left k.gated refl) (used_stays views id v (noted v n) at k.m.gate k.m.epoch k.used refl refl refl refl refl) (omega arith) (λ same. omega arith) (λ z. (k.acting id v at z).0) (λ z. (z, λ q. q)) ((k.debts id v at).0, (k.debts id v at).1, λ _ ok. owed_itself views id v at (state_of k.m k.g) ok) (k.ways id v at, k.places id v at)
+    (gated_stays views id v (word_noted v n) at k.m.gate k.m.left k.gated refl) (used_stays views id v (word_noted v n) at k.m.gate k.m.epoch k.used refl refl refl refl refl) (omega arith) (λ same. omega arith) (λ z. (k.acting id v at z).0) (λ z. (z, λ q. q)) ((k.debts id v at).0, (k.debts id v at).1, λ _ ok. owed_itself views id v at (state_of k.m k.g) ok) (k.ways id v at, k.places id v at)

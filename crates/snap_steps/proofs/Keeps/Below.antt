@@ -18,7 +18,7 @@ use Rattle.snap_stamp.specs.declared.layout.Field.TheVariants.{Stamp}
 use Rattle.snap_stamp.specs.declared.side.Side.{Side}
 use Rattle.snap_steps.specs.Memory.{field, row}
 use Rattle.snap_steps.specs.Facts.{IsBorn}
-use Rattle.snap_steps.specs.Steps.Writes.{IsPlace, entry, made_entry, absent_confirmed}
+use Rattle.snap_steps.specs.Steps.Writes.{IsLeafPlace, entry_of, made_entry, ConfirmsAbsent}
 use Rattle.snap_steps.specs.Stages.{in_write}
 use Rattle.snap_steps.specs.Roles.{is_counted}
 use Rattle.snap_steps.specs.Rule.Locks.{KnowsRows}
@@ -43,12 +43,12 @@ use mathlib.Core.Option as maybe
 use Rattle.snap_rule.specs.Kinds.Entries as entry_kinds
 
 -- the second load of a link of 0 at a place
-pub confirms_below : (about : About) (slots id : ℕ) (me : Sat) (r key : ℕ) (f : Field) → me.0.role ≡ Passing → me.0.stage ≡ Writing false false → IsPlace me.0 key r f → me.0.doing ≡ Nothing
-    → Allows (Rule about) slots id me (word_at r f) (λ n. n) (absent_confirmed key (step slots (word_at r f) 0 0 maybe.none) me)
+pub confirms_below : (about : About) (slots id : ℕ) (me : Sat) (r key : ℕ) (f : Field) → me.0.role ≡ Passing → me.0.stage ≡ Writing false false → IsLeafPlace me.0 key r f → me.0.doing ≡ Nothing
+    → Allows (Rule about) slots id me (word_at r f) (λ n. n) (ConfirmsAbsent key (step slots (word_at r f) 0 0 maybe.none) me)
 confirms_below about slots id me r key f passing writing place whole s k wide at small =
     let v : View = me.0 in let known = k.known id v at in let st : Table = state_of k.m k.g in
     let d : Side = place.side in
-    let e : Entry = entry v.who (Remove key) None in let w : View = made_entry v k.g.history e in
+    let e : Entry = entry_of v.who (Remove key) None in let w : View = made_entry v k.g.history e in
     let way : PointOk st v.seen key (Standing r place.stamp d) = standing_at st v.seen key r place.stamp d v.way.reads (k.ways id v at) place.way in
     let stamp : st.stamp r ≡ place.stamp = known_is k.m.rows v.holds v.words.knows r Stamp place.stamp known place.still in
     let live : r ≢ 0 → IsLive st r = λ nz. born_live st k.m.rows k.m.epoch v r k.table refl refl refl known (k.present id v at).0 (is_in st r nz way.stamp.reached) (is_born v r nz place.live) in

@@ -192,7 +192,7 @@ shrinks about slots id me parent p r d raised x key low is_pass turn aims stamp_
     )
   where
     kinds_fits : (s : Table) (n : ℕ) (d : Side) → Rattle.snap_rule.specs.State.Change → Type 0
-    kinds_fits s n d c = Rattle.snap_rule.specs.Rule.Fits s n d c
+    kinds_fits s n d c = Rattle.snap_rule.specs.Rule.LinkFits s n d c
 
     parent_is : (s : Table) (p : Side) → ((parent ≡ 0) × (p ≡ sides.Right)) ⊎ ((0 < times parent me.0.trail.reached) × IsBorn me.0 parent) → (0 < times parent me.0.trail.reached → IsBorn me.0 parent → IsLive s parent) → rule.IsParent s parent p
     parent_is s p (inl z) f = inl z

@@ -4,7 +4,7 @@ use mathlib.Core.Option.{none}
 use Rattle.atomic_table.proofs.Lists.{set_again}
 use Rattle.atomic_table.specs.Table.{Splits, step, keeps, Allows}
 use Rattle.snap_model.specs.History.{Begins}
-use Rattle.snap_rule.specs.State.{State as Table, Beside, In, Reads, IsShared}
+use Rattle.snap_rule.specs.State.{State as Table, Beside, In, Represents, IsShared}
 use Rattle.snap_rule.specs.Tree.{Tree, Node, EachRow}
 use Rattle.snap_rule.specs.Tree.Tree.{empty, node}
 use Rattle.snap_stamp.specs.Layout.{word_at}
@@ -12,19 +12,19 @@ use Rattle.snap_stamp.specs.declared.layout.Field.{Field}
 use Rattle.snap_stamp.specs.declared.layout.Field.TheVariants.{Key, Birth, Stamp, Lock, Height, Left, Right, Value}
 use Rattle.snap_stamp.specs.declared.side.Side.{Side}
 use Rattle.snap_stamp.specs.declared.side.Side.TheVariants as sides
-use Rattle.snap_steps.specs.Clones.{image_of, IsWithin, NodeHas, FitsLink, TellsWord}
+use Rattle.snap_steps.specs.Clones.{image_of, IsSubtree, NodeHas, FitsLink, TellsWord}
 use Rattle.snap_steps.specs.Counting.{total}
 use Rattle.snap_steps.specs.Memory.{Memory, field, row}
 use Rattle.snap_steps.specs.Roles.{is_live}
 use Rattle.snap_steps.specs.Rule.{Kept}
-use Rattle.snap_steps.specs.Rule.Bases.{HasCause}
+use Rattle.snap_steps.specs.Rule.Bases.{KeepsCause}
 use Rattle.snap_steps.specs.Rule.Worn.{KnowsWorn}
 use Rattle.snap_steps.specs.Stages.{has_cut, in_write, is_quiet, owes_count}
 use Rattle.snap_steps.specs.States.{link_field, state_of}
 use Rattle.snap_steps.specs.declared.view.Role.TheVariants.{Passing}
-use Rattle.snap_steps.specs.Steps.Clones.{seat_of, root_loaded, writes_counted, copied, stamp_noted, stamp_loaded, TellsCause}
+use Rattle.snap_steps.specs.Steps.Clones.{seat_of, root_loaded, writes_counted, CopiesCloneWord, stamp_noted, stamp_loaded, TellsCause}
 use Rattle.snap_steps.specs.Steps.Fields.{is_last}
-use Rattle.snap_steps.specs.Steps.Header.{noted}
+use Rattle.snap_steps.specs.Steps.Header.{word_noted}
 use Rattle.snap_steps.specs.Steps.Told.{Sat}
 use Rattle.snap_steps.specs.declared.rule.About.{About}
 use Rattle.snap_steps.specs.declared.view.Balance.{Balance}
@@ -49,20 +49,20 @@ pub seats_kept : (about : About) (id : ℕ) (v : View) → is_live v.role ≡ 1 
 seats_kept about id v live s k at = subst (λ (l : List View). Kept about s.words (l ++ seat_of v ∷ [])) (sym (set_again s.views id v at)) (clone_more about s.words s.views k id v at live)
 
 -- what is read within a tree
-within_reads : (s : Table) (l : ℕ → Side → ℕ) (t u : Tree) → IsWithin u t → Reads s l t → Reads s l u
-within_reads s l empty u e r = subst (Reads s l) (sym e) r
-within_reads s l (node n a b) u (inl e) r = subst (Reads s l) (sym e) r
+within_reads : (s : Table) (l : ℕ → Side → ℕ) (t u : Tree) → IsSubtree u t → Represents s l t → Represents s l u
+within_reads s l empty u e r = subst (Represents s l) (sym e) r
+within_reads s l (node n a b) u (inl e) r = subst (Represents s l) (sym e) r
 within_reads s l (node n a b) u (inr (inl w)) r = within_reads s l a u w r.3
 within_reads s l (node n a b) u (inr (inr w)) r = within_reads s l b u w r.4
 
-within_each : (P : ℕ → Type 0) (t u : Tree) → IsWithin u t → EachRow P t → EachRow P u
+within_each : (P : ℕ → Type 0) (t u : Tree) → IsSubtree u t → EachRow P t → EachRow P u
 within_each P empty u e r = subst (EachRow P) (sym e) r
 within_each P (node n a b) u (inl e) r = subst (EachRow P) (sym e) r
 within_each P (node n a b) u (inr (inl w)) r = within_each P a u w r.1
 within_each P (node n a b) u (inr (inr w)) r = within_each P b u w r.2
 
 -- the stamp of the row that is the cause of a clone's balance
-found_cause : (s : Table) (balance : Balance) (r found : ℕ) → s.stamp r ≡ found → HasCause s balance → TellsCause balance r found
+found_cause : (s : Table) (balance : Balance) (r found : ℕ) → s.stamp r ≡ found → KeepsCause s balance → TellsCause balance r found
 found_cause s Settled r found is h e = absurd (cc)
 found_cause s RowsOut r found is h e = absurd (cc)
 found_cause s (StampOut row) r found is h e = let same : row ≡ r = cc in omega (arith, h.last, ap s.stamp same, is)
@@ -72,7 +72,7 @@ module _ (m : Memory) (g : Beside) (rows : ℕ) (n : Node) (a b : Tree) where
   abbrev word : Field → ℕ
   word f = field f (row m.rows n.row)
 
-  has : Reads (state_of m g) (state_of m g).link (node n a b) → (f : Field) → NodeHas n a b f (word f)
+  has : Represents (state_of m g) (state_of m g).link (node n a b) → (f : Field) → NodeHas n a b f (word f)
   has r Key = r.0.key
   has r Birth = tt
   has r Stamp = tt
@@ -122,7 +122,7 @@ module _ (about : About) (slots id : ℕ) (me : Sat) where
       let seen = k.history.seen id v at in let still = (k.based id v at).1 cut in
       let idle : total (λ u. in_write u.stage) s.views ≡ 0 = k.gated.quiet (omega (arith, still.0, term_le (λ u. is_quiet u.stage) s.views id v at)) in
       let none_owe : total (λ u. owes_count u.stage) s.views ≡ 0 = none_total (λ u. owes_count u.stage) s.views (λ j u there. none_owes u.stage (omega (arith, idle, term_le (λ y. in_write y.stage) s.views j u there))) in (
-        noted v (Done found),
+        word_noted v (Done found),
         keeps,
         tt,
         noting about s.words s.views k 3 id v (Done found) at tt,
@@ -130,13 +130,13 @@ module _ (about : About) (slots id : ℕ) (me : Sat) where
       )
 
   -- a load of a word of the clone
-  pub copies : (r : ℕ) (f : Field) → r ≤ about.rows → is_live me.0.role ≡ 1 → Allows (Rule about) slots id me (word_at r f) (λ n. n) (copied (step slots (word_at r f) 0 0 none) me)
+  pub copies : (r : ℕ) (f : Field) → r ≤ about.rows → is_live me.0.role ≡ 1 → Allows (Rule about) slots id me (word_at r f) (λ n. n) (CopiesCloneWord (step slots (word_at r f) 0 0 none) me)
   copies r f near live s k wide at small =
       let v : View = me.0 in let found : ℕ = get_or s.words (word_at r f) 0 in let is : found ≡ field f (row k.m.rows r) = cell_is k.memory r f near in
       let seen = k.history.seen id v at in let image = (k.based id v at).0.image in let laid = (k.about_known id v at live).0 in let t : Tree = image_of v in
       let st : Table = state_of k.m k.g in
       let tells : TellsWord v.rows t r f found = λ n a b within same.
-      let reads : Reads st st.link (node n a b) = within_reads st st.link t (node n a b) within image.reads in
+      let reads : Represents st st.link (node n a b) = within_reads st st.link t (node n a b) within image.reads in
       let each = within_each (λ (y : ℕ). In y k.g.linked × IsShared st y) t (node n a b) within image.rows in
       let there : field f (row k.m.rows n.row) ≡ found = ap (λ (y : ℕ). field f (row k.m.rows y)) same ∙ sym is in
       (subst (NodeHas n a b f) there (has k.m k.g v.rows n a b reads f), subst (FitsLink v.rows f) there (fits k.m k.g v.rows n a b (links k n.row each.0.0) (λ y q. let l = low_row s.words s.views k y q in omega (arith, l, laid)) f)) in (

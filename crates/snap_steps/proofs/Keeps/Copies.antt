@@ -36,7 +36,7 @@ use Rattle.snap_steps.specs.Rule.Worn.{KnowsWorn}
 use Rattle.snap_steps.specs.Stages.{in_write}
 use Rattle.snap_steps.specs.States.{link_field, state_of}
 use Rattle.snap_steps.specs.Steps.Births.{learnt, lasting_loaded}
-use Rattle.snap_steps.specs.Steps.Copies.{IsOlder, HasWord, IsCopy, copied, copy_linked}
+use Rattle.snap_steps.specs.Steps.Copies.{IsOlder, HasWord, IsCopy, copied, LinksCopy}
 use Rattle.snap_steps.specs.Steps.Tilts.{IsCopyPlace, IsHeldLink, IsWriting}
 use Rattle.snap_steps.specs.Steps.Fields.{led_to, is_last}
 use Rattle.snap_steps.specs.Steps.Told.{Sat}
@@ -99,7 +99,7 @@ held_link v None parent d child h = record { held = h.held; child_is = h.child_i
 
 -- `link_copy`
 pub links_copy : (about : About) (slots id : ℕ) (me : Sat) (key : Option ℕ) (parent : ℕ) (d : Side) (child copy : ℕ) → parent ≤ about.rows → IsWriting me.0 → IsCopyPlace me.0 key parent d child → IsOlder me.0 child → IsCopy me.0 copy child → me.0.doing ≡ Nothing
-    → Allows (Rule about) slots id me (word_at parent (link_field d)) (λ _. copy) (λ _. copy_linked key (step slots (word_at parent (link_field d)) copy 0 maybe.none) me copy)
+    → Allows (Rule about) slots id me (word_at parent (link_field d)) (λ _. copy) (λ _. LinksCopy key (step slots (word_at parent (link_field d)) copy 0 maybe.none) me copy)
 links_copy about slots id me key parent d child copy low writing place older filled whole s k wide at small =
     let v : View = me.0 in let above = held_link v key parent d child place in let rows_wide = k.memory.wide in let near : parent < length k.m.rows = omega arith in let f : Field = link_field d in
     let st : Table = state_of k.m k.g in let x : Row = with_field f copy (row k.m.rows parent) in let rows' : List Row = changed k.m.rows parent f copy in

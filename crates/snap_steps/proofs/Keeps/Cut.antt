@@ -22,7 +22,7 @@ use Rattle.snap_rule.proofs.Table.{cut_keeps}
 use Rattle.snap_rule.specs.Doing.{DoingOk}
 use Rattle.snap_rule.specs.Evolves.{Evolves}
 use Rattle.snap_rule.specs.Rule.{TableOk}
-use Rattle.snap_rule.specs.State.{State as Table, In, IsImage, IsShared, Reads, WasLinked}
+use Rattle.snap_rule.specs.State.{State as Table, In, IsImage, IsShared, Represents, WasLinked}
 use Rattle.snap_rule.specs.Tree.{EachRow, Tree, root}
 use Rattle.snap_rule.specs.Tree.Tree.{empty, node}
 use Rattle.snap_stamp.specs.declared.side.Side.TheVariants.{Right}
@@ -34,7 +34,7 @@ use Rattle.snap_steps.specs.Steps.Gate.{cut_made, cut_told}
 use Rattle.snap_steps.specs.Stages.{after_cut, in_write, is_closing, is_quiet, may_cut, owes_count, has_counted}
 use Rattle.snap_steps.specs.Roles.{is_counted, is_live}
 use Rattle.snap_steps.specs.Rule.Epochs.{AllAre, KnowsEpoch}
-use Rattle.snap_steps.specs.Rule.Gate.{IsAt}
+use Rattle.snap_steps.specs.Rule.Gate.{KnowsGate}
 use Rattle.snap_steps.specs.Rule.History.{IsIn, IsTrueOf, whole}
 use Rattle.snap_steps.specs.Rule.Names.{names, ActsAsPass}
 use Rattle.snap_steps.specs.Rule.Words.{KnowsAbout}
@@ -67,7 +67,7 @@ use mathlib.Core.Option as maybe
 use Rattle.snap_rule.specs.Kinds.Clones as clone_kinds
 use Rattle.snap_steps.proofs.Parts.Bases.{bases_evolve, tree_of-parts}
 use Rattle.snap_steps.specs.Clones.{ArePlaced, IsCaused, IsCloneOf, parts_of, tree_of}
-use Rattle.snap_steps.specs.Rule.Bases.{HasCause, IsBase}
+use Rattle.snap_steps.specs.Rule.Bases.{KeepsCause, IsBase}
 use Rattle.snap_steps.specs.Rule.Worn.{KnowsWorn}
 use Rattle.snap_steps.specs.Rule.Tries.{KnowsTry}
 use Rattle.snap_steps.proofs.Parts.Tries.{tries_evolve}
@@ -89,7 +89,7 @@ none_counted (Writing made counted) z = absurd (omega (arith, z))
 none_counted (Closing gate quiet cut) z = refl
 
 -- rows that were linked are rows of the table
-placed_rows : (linked : List ℕ) (rows : ℕ) (s : Table) (t : Tree) → Reads s s.link t → EachRow (λ r. In r linked × IsShared s r) t → ((y : ℕ) → In y linked → y ≤ rows) → ArePlaced rows t
+placed_rows : (linked : List ℕ) (rows : ℕ) (s : Table) (t : Tree) → Represents s s.link t → EachRow (λ r. In r linked × IsShared s r) t → ((y : ℕ) → In y linked → y ≤ rows) → ArePlaced rows t
 placed_rows linked rows s empty r e low = tt
 placed_rows linked rows s (node n a b) r e low = ((r.0.is_row, low n.row e.0.0), placed_rows linked rows s a r.3 e.1 low, placed_rows linked rows s b r.4 e.2 low)
 
@@ -97,7 +97,7 @@ placed_rows linked rows s (node n a b) r e low = ((r.0.is_row, low n.row e.0.0),
 record Weighs (s s' : Table) (rows next : ℕ) (t : Tree) : Type 0 where
   balance : Balance
   caused : IsCaused rows next t balance
-  cause : HasCause s' balance
+  cause : KeepsCause s' balance
 
 weighs : (s s' : Table) (rows next : ℕ) → TableOk s → ((y : ℕ) → In y s.linked → (0 < y) × (y ≤ next)) → s'.linked ≡ s.linked → ((y : ℕ) → s'.stamp y ≡ s.stamp y) → IsSettledTree s.tree ⊎ HasReason s next rows → Weighs s s' rows next s.tree
 weighs s s' rows next ok low linked stamps (inl settled) = record { balance = Settled; caused = settled; cause = tt }
@@ -164,7 +164,7 @@ cuts about slots id me gate passing alone closing s k wide at small =
         drawn = drawn_stays views id v w at k.m.next k.m.next k.drawn (omega arith) refl refl;
         notes = each_set views id w k.notes (header_later k.m.next k.m.next k.m.epoch new (omega arith) (omega arith)) (let h = header_later k.m.next k.m.next k.m.epoch new (omega arith) (omega arith) v (k.notes id v at) in record { notes_are = h.notes_are; handed_is = h.handed_is; epochs_are = h.epochs_are; drawn_is = omega arith });
         gated = gated_moves views id v w at k.m.gate k.m.left k.m.gate k.m.left g (omega arith) (omega (arith, g.one)) (λ some. omega (arith, none, total-set (λ u. in_write u.stage) views id v w at))
-            (each_stays views id v w at (λ u. IsAt k.m.gate u.stage) g.at (λ p. subst (IsAt k.m.gate) (sym stage) (subst (IsAt k.m.gate) closing p)));
+            (each_stays views id v w at (λ u. KnowsGate k.m.gate u.stage) g.at (λ p. subst (KnowsGate k.m.gate) (sym stage) (subst (KnowsGate k.m.gate) closing p)));
         used = used_moves views id v w at k.m.gate k.m.epoch k.m.gate new k.used refl refl refl (omega arith) (k.used.few id v at).0;
         locked = locked_stays views id v w at k.m.rows k.locked refl refl (λ x. omega (arith, free id v at x));
         known = each_stays views id v w at (KnowsRows k.m.rows) k.known (λ p. p);

@@ -14,11 +14,11 @@ use Rattle.atomic_table.specs.Table.{step, Act, keeps, Valid, carried_after, ste
 use Rattle.snap_rule.specs.Doing.{DoingOk}
 use Rattle.snap_steps.specs.Counting.{times}
 use Rattle.snap_steps.specs.Rule.Changes.{changing, HoldsIts}
-use Rattle.snap_steps.specs.Steps.Header.{noted}
+use Rattle.snap_steps.specs.Steps.Header.{word_noted}
 use Rattle.snap_steps.specs.Steps.Draws.{drew, drawing_tried}
 use Rattle.snap_steps.specs.Stages.{in_write, owes_count, has_counted}
 use Rattle.snap_steps.specs.Roles.{is_counted, is_live}
-use Rattle.snap_steps.specs.Rule.Apart.{AreApart, IsOwn}
+use Rattle.snap_steps.specs.Rule.Apart.{AreApart, OwnsUnlinked}
 use Rattle.snap_steps.specs.Rule.Drawn.{AreDrawn}
 use Rattle.snap_steps.specs.Rule.Locks.{KnowsRows}
 use Rattle.snap_steps.specs.Rule.Ways.{AllLinked, IsOnWay}
@@ -57,7 +57,7 @@ draws about slots id me found said room passing s k wide at small =
     let G : ℕ → Type 0 = λ x. (w : View) × (a : Act (Unit {0})) × Valid s.homes me.1 a × Rule about (stepped s 0 x id me.1 w a) × drawing_tried (step slots 0 found (found + 1) said) me r (w, carried_after me.1 a) in
     exchanged r found (found + 1) G
     (λ hit. let w : View = drew me.0 (found + 1) in let here' : k.m.next + 1 ≡ found + 1 = omega arith in
-    let own_more : (r : ℕ) → 0 < times r w.fresh.own → IsOwn k.g.linked me.0 → (times r k.g.linked ≡ 0) × (0 < times r w.drawn) = λ r l p. dite (ℕ_discrete r (found + 1))
+    let own_more : (r : ℕ) → 0 < times r w.fresh.own → OwnsUnlinked k.g.linked me.0 → (times r k.g.linked ≡ 0) × (0 < times r w.drawn) = λ r l p. dite (ℕ_discrete r (found + 1))
     (λ e. (dite (ℕ_discrete (times r k.g.linked) 0) (λ z. z) (λ nz. let low = k.apart.low r (omega arith) in absurd (omega (arith, low.1))), omega (arith, times-append r me.0.drawn ((found + 1) ∷ []), one_same r (found + 1) e)))
     (λ ne. let q = p r (omega (arith, l, one_other r (found + 1) ne)) in (q.0, omega (arith, q.1, times-append r me.0.drawn ((found + 1) ∷ [])))) in let here : k.m.next ≡ found = omega arith in (
       w,
@@ -101,7 +101,7 @@ draws about slots id me found said room passing s k wide at small =
       (refl, (λ _. refl), (λ miss. absurd (miss hit)), omega arith),
     ))
     (λ miss. (
-      noted me.0 (Next r),
+      word_noted me.0 (Next r),
       keeps,
       tt,
       noting about s.words s.views k 0 id me.0 (Next r) at (omega arith),

@@ -22,7 +22,7 @@ use Rattle.snap_stamp.specs.declared.layout.Field.TheVariants.{Stamp, Lock}
 use Rattle.snap_steps.specs.Numbers.{times_drawn}
 use Rattle.snap_steps.specs.Counting.{times}
 use Rattle.snap_steps.specs.Memory.{field, row, Row, with_field}
-use Rattle.snap_steps.specs.Steps.Fields.{read, led_to, word_loaded, own_stored, stored_own, is_last}
+use Rattle.snap_steps.specs.Steps.Fields.{read, led_to, word_loaded, own_word_stored, stored_own, is_last}
 use Rattle.snap_steps.specs.Facts.{fact, AreFacts}
 use Rattle.snap_steps.specs.Rule.Locks.{KnowsRows, is_taken}
 use Rattle.snap_steps.specs.declared.view.View.{View}
@@ -38,7 +38,7 @@ use Rattle.snap_steps.specs.Steps.Told.{Sat}
 use Rattle.snap_steps.proofs.Classes.Seeing.{seeing}
 use Rattle.snap_steps.specs.Rule.Changes.{changing, HoldsIts}
 use Rattle.snap_steps.specs.Stages.{in_write, owes_count, has_counted}
-use Rattle.snap_steps.specs.Rule.Apart.{IsOwn}
+use Rattle.snap_steps.specs.Rule.Apart.{OwnsUnlinked}
 use Rattle.snap_steps.specs.Rule.Notes.{KnowsHeader}
 use Rattle.snap_steps.specs.Rule.Ways.{AllLinked, IsOnWay}
 use Rattle.snap_steps.specs.Rule.Epochs.{KnowsEpoch}
@@ -85,7 +85,7 @@ reads about slots id me r f low passing s k wide at small =
 -- `store_own`
 pub stores_own : (about : About) (slots id : ℕ) (me : Sat) (r new : ℕ) (f : Field) → r ≤ about.rows → f ≢ Lock → f ≢ Stamp → 0 < times r me.0.fresh.own → Allows (Rule about) slots id me (word_at r f) (λ _. new) (λ _. stored_own r f (step slots (word_at r f) new 0 maybe.none) me new)
 stores_own about slots id me r new f low no_lock no_stamp mine s k wide at small =
-    let v : View = me.0 in let w : View = own_stored v r f new in let rows_wide = k.memory.wide in let x : Row = with_field f new (row k.m.rows r) in let near : r < length k.m.rows = omega arith in
+    let v : View = me.0 in let w : View = own_word_stored v r f new in let rows_wide = k.memory.wide in let x : Row = with_field f new (row k.m.rows r) in let near : r < length k.m.rows = omega arith in
     let own = k.apart.own id v at r mine in
     let pos : 0 < r = dite (ℕ_discrete r 0) (λ z. absurd (omega (arith, own.1, ap (λ (y : ℕ). times y v.drawn) z, k.drawn.none_zero, term_le (times_drawn 0) s.views id v at))) (λ nz. omega arith) in
     let lock : x.lock ≡ (row k.m.rows r).lock = field_other Lock f new (row k.m.rows r) (λ e. no_lock (sym e)) in
@@ -131,7 +131,7 @@ stores_own about slots id me r new f low no_lock no_stamp mine s k wide at small
         acting = each_stays s.views id v w at ActsAsPass k.acting (λ p. p);
         apart = record {
           low = k.apart.low;
-          own = each_stays s.views id v w at (IsOwn k.g.linked) k.apart.own (λ p. p);
+          own = each_stays s.views id v w at (OwnsUnlinked k.g.linked) k.apart.own (λ p. p);
           fresh = λ y above z. dite (ℕ_discrete y r)
               (λ e. let q = ap (λ (i : ℕ). row (changed k.m.rows r f new) i) e ∙ row_same k.m.rows r x near in (ap (λ (o : Row). o.lock) q ∙ lock ∙ free, ap (λ (o : Row). o.stamp) q ∙ still ∙ (k.apart.fresh r pos own.0).1))
               (λ ne. let q = row_other k.m.rows r y x ne in let h = k.apart.fresh y above z in (ap (λ (o : Row). o.lock) q ∙ h.0, ap (λ (o : Row). o.stamp) q ∙ h.1));

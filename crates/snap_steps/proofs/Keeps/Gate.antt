@@ -16,7 +16,7 @@ use prog.Atomic.{either}
 use Rattle.atomic_table.proofs.Lists.{exchanged}
 use Rattle.atomic_table.specs.Table.{step, Act, keeps, Valid, carried_after, stepped, Allows}
 use Rattle.snap_steps.specs.Counting.{total, times}
-use Rattle.snap_steps.specs.Steps.Header.{noted}
+use Rattle.snap_steps.specs.Steps.Header.{word_noted}
 use Rattle.snap_steps.specs.Steps.Gate.{entered, entering_tried, closed, closing_tried, idled, ended}
 use Rattle.snap_steps.specs.Stages.{in_write, is_closing, may_cut, owes_count, has_counted, is_quiet}
 use Rattle.snap_steps.specs.Roles.{own_number, is_counted}
@@ -32,7 +32,7 @@ use Rattle.snap_steps.proofs.Parts.Gate.{gated_moves, nobody_closes, quiets_le}
 use Rattle.snap_steps.proofs.Classes.Turning.{Rule, turning, noting}
 use Rattle.snap_steps.specs.Steps.Told.{Sat}
 use Rattle.snap_steps.proofs.EachView.{each_set, each_stays}
-use Rattle.snap_steps.specs.Rule.Gate.{IsAt}
+use Rattle.snap_steps.specs.Rule.Gate.{KnowsGate}
 use Rattle.snap_steps.proofs.Parts.Counts.{counted_le}
 
 pub enters : (about : About) (slots id : ℕ) (me : Sat) (found new : ℕ) (said : Option (Unit {0})) → found % 2 ≡ 0 → new ≡ (found + 2) % 2 ^ 64 → me.0.stage ≡ Idle → me.0.uses < 2 ^ 48 → me.0.role ≡ Passing
@@ -55,7 +55,7 @@ enters about slots id me found new said even up idle unused passing s k wide at 
           (subst (DebtDoing (state_of k.m k.g) v.doing) ((k.debts id v at).1 a) (k.debts id v at).0, (λ _. refl), λ room ok. owed_none k id v at ((k.debts id v at).1 a) ok) (tt, tt),
       (refl, ((λ _. refl), (λ miss. absurd (miss hit)))),
     ))
-    (λ miss. (noted v (Gate r), keeps, tt, noting about s.words s.views k 1 id v (Gate r) at tt, (refl, ((λ hit. absurd (miss hit)), (λ _. refl)))))
+    (λ miss. (word_noted v (Gate r), keeps, tt, noting about s.words s.views k 1 id v (Gate r) at tt, (refl, ((λ hit. absurd (miss hit)), (λ _. refl)))))
 
 pub closes : (about : About) (slots id : ℕ) (me : Sat) (found new : ℕ) (said : Option (Unit {0})) → found % 2 ≡ 0 → new ≡ found + 1 → me.0.stage ≡ Idle → me.0.uses < 2 ^ 48 → me.0.role ≡ Passing
     → Allows (Rule about) slots id me 1 (λ n. either (eqb n found) new n) (closing_tried (step slots 1 found new said) me)
@@ -76,7 +76,7 @@ closes about slots id me found new said even up idle unused passing s k wide at 
           ((k.debts id v at).0, (λ _. (k.debts id v at).1 a), λ room ok. owed_itself s.views id v at (state_of k.m k.g) ok) (k.ways id v at, k.places id v at),
       (refl, ((λ _. refl), (λ miss. absurd (miss hit)))),
     ))
-    (λ miss. (noted v (Gate r), keeps, tt, noting about s.words s.views k 1 id v (Gate r) at tt, (refl, ((λ hit. absurd (miss hit)), (λ _. refl)))))
+    (λ miss. (word_noted v (Gate r), keeps, tt, noting about s.words s.views k 1 id v (Gate r) at tt, (refl, ((λ hit. absurd (miss hit)), (λ _. refl)))))
 
 pub leaves : (about : About) (slots id : ℕ) (me : Sat) (made counted : Bool) → me.0.stage ≡ Writing made counted → owes_count (Writing made counted) ≡ 0 → me.0.holds ≡ [] → is_live me.0.role ≡ 1 → OwesNothing me.0 → Allows (Rule about) slots id me 2 (λ n. (n + 1) % 2 ^ 64) (ended (step slots 2 1 0 none) me)
 leaves about slots id me made counted writing settled free live owes s k wide at small =
@@ -90,7 +90,7 @@ leaves about slots id me made counted writing settled free live owes s k wide at
       tt,
       turning about s.words s.views k id v at (set s.words 2 new) (record k.m { left = new }) v.noted.notes v.noted.handed v.noted.epochs Idle v.uses [] v.fresh.copies no_debt v.way.reads v.way.place (left_set k.memory new) refl refl (k.notes id v at) (omega (arith, o)) (omega (arith, q)) refl (λ x. subst (λ (h : List ℕ). times x h ≤ 0) (sym free) (omega arith)) (tt, λ _. refl)
           (gated_moves s.views id v w at k.m.gate k.m.left k.m.gate new g (omega arith) (omega arith) (λ some. absurd (omega (arith, g.quiet (omega (arith, total-set (λ u. is_quiet u.stage) s.views id v w at)))))
-          (each_stays s.views id v w at (λ u. IsAt k.m.gate u.stage) g.at (λ p. tt)))
+          (each_stays s.views id v w at (λ u. KnowsGate k.m.gate u.stage) g.at (λ p. tt)))
           (used_moves s.views id v w at k.m.gate k.m.epoch k.m.gate k.m.epoch k.used refl refl refl (omega arith) (k.used.few id v at).0) (omega arith) (λ z. omega arith) (λ _. refl) (λ z. absurd (omega (arith, z)))
           (subst (λ (g : Doing). DebtDoing (state_of k.m k.g) g no_debt) (sym (doing_free v.doing v.holds (k.held id v at) (λ x. ap (times x) free))) refl, (λ _. refl), λ room ok. leave_owes (state_of k.m k.g) (debts_of s.views) id ok (owes_none k id v at live owes room)) (k.ways id v at, k.places id v at),
       refl,

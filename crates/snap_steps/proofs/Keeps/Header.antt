@@ -6,7 +6,7 @@ use mathlib.Core.Logic.{dite}
 use mathlib.Core.Option.{none}
 use native.Mathlib.Decide.{dec_le}
 use Rattle.atomic_table.specs.Table.{step, keeps, Allows}
-use Rattle.snap_steps.specs.Steps.Header.{noted, next_loaded, gate_loaded, left_seen, left_loaded, saw, done_loaded, epoch_noted, epoch_loaded}
+use Rattle.snap_steps.specs.Steps.Header.{word_noted, next_loaded, gate_loaded, left_seen, left_loaded, saw, done_loaded, epoch_noted, epoch_loaded}
 use Rattle.snap_steps.specs.Roles.{is_live, is_counted}
 use Rattle.snap_steps.specs.declared.view.WordNote.TheVariants.{Next, Gate, Left, Done, Epoch}
 use Rattle.snap_steps.specs.declared.view.Role.TheVariants.{Passing}
@@ -16,7 +16,7 @@ use Rattle.snap_steps.proofs.Classes.Turning.{Rule, noting, turning}
 use Rattle.snap_steps.specs.Steps.Told.{Sat}
 use Rattle.snap_steps.specs.Counting.{total}
 use Rattle.snap_steps.specs.Stages.{after_left, in_write, is_closing, is_quiet}
-use Rattle.snap_steps.specs.Rule.Gate.{IsAt}
+use Rattle.snap_steps.specs.Rule.Gate.{KnowsGate}
 use Rattle.snap_steps.specs.declared.view.View.{View}
 use Rattle.snap_steps.proofs.Totals.{term_le, total-set}
 use Rattle.snap_steps.proofs.Notes.{header_more}
@@ -32,7 +32,7 @@ use Rattle.snap_steps.proofs.Parts.Bases.{left_cut}
 
 pub loads_next : (about : About) (slots id : ℕ) (me : Sat) → me.0.role ≡ Passing → Allows (Rule about) slots id me 0 (λ n. n) (next_loaded (step slots 0 0 0 none) me)
 loads_next about slots id me passing s k wide at small = let is = next_is k.memory in let room = k.memory.room in let a = (k.about_known id me.0 at (ap is_live passing)).0 in (
-  noted me.0 (Next (get_or s.words 0 0)),
+  word_noted me.0 (Next (get_or s.words 0 0)),
   keeps,
   tt,
   noting about s.words s.views k 0 id me.0 (Next (get_or s.words 0 0)) at (omega arith),
@@ -40,7 +40,7 @@ loads_next about slots id me passing s k wide at small = let is = next_is k.memo
 )
 
 pub loads_gate : (about : About) (slots id : ℕ) (me : Sat) → Allows (Rule about) slots id me 1 (λ n. n) (gate_loaded (step slots 1 0 0 none) me)
-loads_gate about slots id me s k wide at small = (noted me.0 (Gate (get_or s.words 1 0)), keeps, tt, noting about s.words s.views k 1 id me.0 (Gate (get_or s.words 1 0)) at tt, (refl, refl))
+loads_gate about slots id me s k wide at small = (word_noted me.0 (Gate (get_or s.words 1 0)), keeps, tt, noting about s.words s.views k 1 id me.0 (Gate (get_or s.words 1 0)) at tt, (refl, refl))
 
 pub loads_left : (about : About) (slots id : ℕ) (me : Sat) → Allows (Rule about) slots id me 2 (λ n. n) (left_loaded (step slots 2 0 0 none) me)
 loads_left about slots id me s k wide at small =
@@ -59,7 +59,7 @@ loads_left about slots id me s k wide at small =
       tt,
       turning about s.words s.views k id v at (set s.words 2 r) k.m (v.noted.notes ++ Left r ∷ []) v.noted.handed v.noted.epochs (after_left v.stage r) v.uses v.words.present v.fresh.copies v.debt v.way.reads v.way.place (loaded k.memory 2) refl refl (header_more k.m.next k.m.epoch v (Left r) (k.notes id v at) tt) (omega (arith, same.3)) (omega (arith, same.4)) refl (λ x. omega (arith, k.locked.writing id v at x, same.0)) ((k.present id v at).0, λ z. (k.present id v at).1 (omega (arith, same.0, z)))
           (gated_moves s.views id v w at k.m.gate k.m.left k.m.gate k.m.left g (omega (arith, same.0, same.1)) (omega (arith, same.1, one)) (λ some. omega (arith, none_writes some, same.0))
-          (each_stays s.views id v w at (λ u. IsAt k.m.gate u.stage) g.at (λ p. after_left_at k.m.gate v.stage r p)))
+          (each_stays s.views id v w at (λ u. KnowsGate k.m.gate u.stage) g.at (λ p. after_left_at k.m.gate v.stage r p)))
           (used_moves s.views id v w at k.m.gate k.m.epoch k.m.gate k.m.epoch k.used refl refl refl (omega (arith, same.2)) (k.used.few id v at).0) (omega arith) (λ z. omega (arith, same.0)) (λ z. ap (λ st. after_left st r) (k.acting id v at z).0) (left_cut v.stage r)
           ((k.debts id v at).0, (λ z. (k.debts id v at).1 (omega (arith, same.0, z))), λ room ok. owed_itself s.views id v at (state_of k.m k.g) ok) (k.ways id v at, k.places id v at),
       (refl, refl),
@@ -67,7 +67,7 @@ loads_left about slots id me s k wide at small =
 
 pub loads_done : (about : About) (slots id : ℕ) (me : Sat) → me.0.role ≡ Passing → me.0.joined ≡ [] → Allows (Rule about) slots id me 3 (λ n. n) (done_loaded (step slots 3 0 0 none) me)
 loads_done about slots id me passing alone s k wide at small =
-    let v : View = me.0 in let r : ℕ = get_or s.words 3 0 in let is : r ≡ k.m.done = done_is k.memory in let w : View = noted (saw v k.g.history) (Done r) in
+    let v : View = me.0 in let r : ℕ = get_or s.words 3 0 in let is : r ≡ k.m.done = done_is k.memory in let w : View = word_noted (saw v k.g.history) (Done r) in
     let own = (k.history.mine id v at).0 (ap is_counted passing) in let seen = (k.history.seen id v at).0 in (
       w,
       keeps,

@@ -49,7 +49,7 @@ use Rattle.snap_steps.specs.Counting.{times, removed}
 use Rattle.snap_steps.specs.Memory.{Row, field, with_field, row}
 use Rattle.snap_steps.specs.Rule.Changes.{changing}
 use Rattle.snap_steps.specs.Facts.{IsBorn, forgotten_row, fact, forgotten}
-use Rattle.snap_steps.specs.Steps.Writes.{IsLeaf, IsPlace, hung, entry, leaf_hung}
+use Rattle.snap_steps.specs.Steps.Writes.{IsLeaf, IsLeafPlace, hung, entry_of, leaf_hung}
 use Rattle.snap_steps.specs.Stages.{in_write}
 use Rattle.snap_steps.specs.Roles.{is_counted}
 use Rattle.snap_steps.specs.Rule.Locks.{is_taken}
@@ -112,7 +112,7 @@ abbrev debt_with : ℕ → List Mark → Debt
 debt_with a l = record { to_do = Some a; list = l; turning = None }
 
 -- `link_leaf`
-pub links_leaf : (about : About) (slots id : ℕ) (me : Sat) (r key value parent : ℕ) (f : Field) → parent ≤ about.rows → key < 2 ^ 64 → me.0.role ≡ Passing → me.0.stage ≡ Writing false false → IsLeaf me.0 r key value → IsPlace me.0 key parent f → me.0.doing ≡ Nothing → OwesNothing me.0
+pub links_leaf : (about : About) (slots id : ℕ) (me : Sat) (r key value parent : ℕ) (f : Field) → parent ≤ about.rows → key < 2 ^ 64 → me.0.role ≡ Passing → me.0.stage ≡ Writing false false → IsLeaf me.0 r key value → IsLeafPlace me.0 key parent f → me.0.doing ≡ Nothing → OwesNothing me.0
     → Allows (Rule about) slots id me (word_at parent f) (λ _. r) (λ _. leaf_hung key value parent f (step slots (word_at parent f) r 0 maybe.none) me r)
 links_leaf about slots id me r key value parent f low small_key passing writing leaf place whole owes s k wide at small =
     let v : View = me.0 in let rows_wide = k.memory.wide in let near : parent < length k.m.rows = omega arith in
@@ -140,7 +140,7 @@ links_leaf about slots id me r key value parent f low small_key passing writing 
     (λ same. let own_view : u ≡ v = some-injective u v (sym there ∙ ap (get_elem? s.views) same ∙ at) in absurd (subst (λ z. Concerns z n) (ap (λ (z : View). z.doing) own_view ∙ whole) c))
     (λ ne. ((λ q. omega (arith, k.held j u there n c, others_apart s.views id v at k.m.rows parent k.locked place.held j u ne there, ap (λ (i : ℕ). times i u.holds) q)), (λ q. omega (arith, k.held j u there n c, unlocked j u there, ap (λ (i : ℕ). times i u.holds) q)))) in
     let word : (h : Field) (y : ℕ) → Rattle.snap_steps.specs.Facts.IsKnown v.fresh.wrote r h y → field h (row k.m.rows r) ≡ y = λ h y. known_is k.m.rows v.fresh.own v.fresh.wrote r h y wrote in
-    let e : Entry = entry v.who (Put key value) None in let w : View = hung v k.g.history e parent f r in
+    let e : Entry = entry_of v.who (Put key value) None in let w : View = hung v k.g.history e parent f r in
     let may : entry_kinds.MayLinkLeaf st parent d r e = record {
       writing = some_write s.views id v k.g.writers at k.writers (ap in_write writing);
       parent_live = under.parent_live;

@@ -1,6 +1,5 @@
 -- Storing a height keeps the rule.
 use Rattle.std.proofs.Common.{◌≡◌, ◌≢◌, ◌<◌, ◌≤◌, ◌⊎◌, ◌∙◌, ⊎_elim, inl, inr, ℕ, zero, suc, refl, sym, ap, subst, arith, List, [], ◌∷◌, length, set, Some, None, Option, max}
-use mathlib.Core.Option.{some}
 use mathlib.Core.Option as maybe
 use Rattle.atomic_table.specs.Table.{step, keeps, Allows}
 use Rattle.snap_rule.proofs.Debts.Heights.{child_loaded, heights_height}
@@ -42,7 +41,7 @@ use Rattle.snap_steps.specs.Stages.{in_write}
 use Rattle.snap_steps.specs.States.{state_of, link_field}
 use Rattle.snap_steps.specs.Steps.Changes.{AimsAt}
 use Rattle.snap_steps.specs.Steps.Debts.{listing}
-use Rattle.snap_steps.specs.Steps.Settling.{AimsByHeight, HasHeight, IsBelow, IsRightHeight, heightened, height_stored}
+use Rattle.snap_steps.specs.Steps.Settling.{AimsByHeight, HasHeight, IsBelow, IsRightHeight, heightened, StoresHeight}
 use Rattle.snap_steps.specs.Steps.Told.{Sat}
 use Rattle.snap_steps.specs.Steps.Unlinking.{IsPair}
 use Rattle.snap_steps.specs.declared.rule.About.{About}
@@ -83,7 +82,7 @@ noted_is s (suc n) x l (inr e) = listing_is s (suc n) x l e
 
 -- `store_height`
 pub raises : (about : About) (slots id : ℕ) (me : Sat) (parent : ℕ) (p : Side) (r key h : ℕ) → r ≤ about.rows → is_live me.0.role ≡ 1 → IsPair me.0 parent p r → IsKnown me.0.words.knows r Key key → IsRightHeight me.0 r h → AimsByHeight me.0 parent r → me.0.doing ≡ Nothing
-    → Allows (Rule about) slots id me (word_at r Height) (λ _. h) (λ _. height_stored parent r key (step slots (word_at r Height) h 0 maybe.none) me 0)
+    → Allows (Rule about) slots id me (word_at r Height) (λ _. h) (λ _. StoresHeight parent r key (step slots (word_at r Height) h 0 maybe.none) me 0)
 raises about slots id me parent p r key h low is_pass pair key_known right aims whole s k wide at small =
     let v : View = me.0 in let w : View = heightened v parent r key h in let rows_wide = k.memory.wide in let near : r < length k.m.rows = omega arith in
     let o : Row = with_field Height h (row k.m.rows r) in let rows' : List Row = changed k.m.rows r Height h in let st : Table = state_of k.m k.g in

@@ -44,7 +44,7 @@ use Rattle.snap_steps.specs.Rule.Marks.{lowers}
 use Rattle.snap_steps.specs.Stages.{in_write}
 use Rattle.snap_steps.specs.States.{state_of, link_field}
 use Rattle.snap_steps.specs.Steps.Debts.{listing}
-use Rattle.snap_steps.specs.Steps.Rotating.{HasStamp, HasStamps, turned, turn_stored}
+use Rattle.snap_steps.specs.Steps.Rotating.{HasStamp, HasStamps, link_turned, turn_stored}
 use Rattle.snap_steps.specs.Steps.Told.{Sat}
 use Rattle.snap_steps.specs.declared.rule.About.{About}
 use Rattle.snap_steps.specs.declared.view.ChildHeight.{ChildHeight}
@@ -95,7 +95,7 @@ debt_of key r l = record { to_do = Some key; list = l; turning = Some r }
 pub turns : (about : About) (slots id : ℕ) (me : Sat) (parent : ℕ) (p : Side) (r : ℕ) (d : Side) (raised key : ℕ) → parent ≤ about.rows → me.0.doing ≡ Lifted parent p r d raised → IsKnown me.0.words.knows r Key key → HasStamps me.0 parent r raised
     → Allows (Rule about) slots id me (word_at parent (link_field p)) (λ _. raised) (λ _. turn_stored (step slots (word_at parent (link_field p)) raised 0 maybe.none) me 0)
 turns about slots id me parent p r d raised key low change key_known stamps s k wide at small =
-    let v : View = me.0 in let w : View = turned v parent p r raised key in let rows_wide = k.memory.wide in let near : parent < length k.m.rows = omega arith in
+    let v : View = me.0 in let w : View = link_turned v parent p r raised key in let rows_wide = k.memory.wide in let near : parent < length k.m.rows = omega arith in
     let f : Field = link_field p in
     let o : Row = with_field f raised (row k.m.rows parent) in let rows' : List Row = changed k.m.rows parent f raised in let st : Table = state_of k.m k.g in
     let known = k.known id v at in
@@ -176,7 +176,7 @@ turns about slots id me parent p r d raised key low change key_known stamps s k 
       rows_both (λ n. n ≢ r) (λ n. n ≢ raised) (heights_forgotten c raised) (rows_still (λ n. n ≢ r) c raised (rows_but a r)) (rows_but c raised),
     )
 
-    told : (parent' row' raised' key' : ℕ) (p' d' : Side) → Lifted parent p r d raised ≡ Lifted parent' p' row' d' raised' → (r ≡ row' → key ≡ key') → (let n : Sat = (turned me.0 parent p r raised key, me.1) in n ≡ (turned me.0 parent' p' row' raised' key', me.1))
+    told : (parent' row' raised' key' : ℕ) (p' d' : Side) → Lifted parent p r d raised ≡ Lifted parent' p' row' d' raised' → (r ≡ row' → key ≡ key') → (let n : Sat = (link_turned me.0 parent p r raised key, me.1) in n ≡ (link_turned me.0 parent' p' row' raised' key', me.1))
     told parent' row' raised' key' p' d' q keys =
         let a : parent ≡ parent' = cc in let e : p ≡ p' = cc in let b : r ≡ row' = cc in let c : raised ≡ raised' = cc in let y = keys b in
-        (λ i. (turned me.0 (a i) (e i) (b i) (c i) (y i), me.1))
+        (λ i. (link_turned me.0 (a i) (e i) (b i) (c i) (y i), me.1))

@@ -48,7 +48,7 @@ use Rattle.snap_steps.specs.States.{state_of, link_field, with_word}
 use Rattle.snap_steps.specs.Steps.Changes.{AimsAt}
 use Rattle.snap_steps.specs.Steps.Debts.{listing, aimed_at}
 use Rattle.snap_steps.specs.Steps.Told.{Sat}
-use Rattle.snap_steps.specs.Steps.Unlinking.{IsPair, IsRouting, HasKey, AimsNear, unlinked, spliced, unlinked_stored, splice_stored}
+use Rattle.snap_steps.specs.Steps.Unlinking.{IsPair, IsRouting, HasKey, AimsNear, unlinked, row_spliced, unlinked_stored, splice_stored}
 use Rattle.snap_steps.specs.declared.rule.About.{About}
 use Rattle.snap_steps.specs.declared.view.View.{View}
 use Rattle.snap_steps.proofs.Cells.{changed, cell_set, row_same, row_other, field_same, field_other}
@@ -193,7 +193,7 @@ unlinks about slots id me parent p r only key x low is_pass pair routing stamp_k
 pub splices : (about : About) (slots id : ℕ) (me : Sat) (parent : ℕ) (p : Side) (r only : ℕ) → parent ≤ about.rows → me.0.doing ≡ Unlinked parent p r only
     → Allows (Rule about) slots id me (word_at parent (link_field p)) (λ _. only) (λ _. splice_stored (step slots (word_at parent (link_field p)) only 0 maybe.none) me 0)
 splices about slots id me parent p r only low change s k wide at small =
-    let v : View = me.0 in let w : View = spliced v parent p only in let rows_wide = k.memory.wide in let near : parent < length k.m.rows = omega arith in
+    let v : View = me.0 in let w : View = row_spliced v parent p only in let rows_wide = k.memory.wide in let near : parent < length k.m.rows = omega arith in
     let f : Field = link_field p in
     let o : Row = with_field f only (row k.m.rows parent) in let rows' : List Row = changed k.m.rows parent f only in let st : Table = state_of k.m k.g in
     let held : 0 < times parent v.holds = k.held id v at parent (subst (λ (g : Doing). Concerns g parent) (sym change) refl) in
@@ -233,5 +233,5 @@ splices about slots id me parent p r only low change s k wide at small =
       λ parent' row' only' p' same. let q : Unlinked parent p r only ≡ Unlinked parent' p' row' only' = sym change ∙ same in told parent' row' only' p' q,
     )
   where
-    told : (parent' row' only' : ℕ) (p' : Side) → Unlinked parent p r only ≡ Unlinked parent' p' row' only' → (let n : Sat = (spliced me.0 parent p only, me.1) in n ≡ (spliced me.0 parent' p' only', me.1))
-    told parent' row' only' p' q = let a : parent ≡ parent' = cc in let d : p ≡ p' = cc in let e : only ≡ only' = cc in (λ i. (spliced me.0 (a i) (d i) (e i), me.1))
+    told : (parent' row' only' : ℕ) (p' : Side) → Unlinked parent p r only ≡ Unlinked parent' p' row' only' → (let n : Sat = (row_spliced me.0 parent p only, me.1) in n ≡ (row_spliced me.0 parent' p' only', me.1))
+    told parent' row' only' p' q = let a : parent ≡ parent' = cc in let d : p ≡ p' = cc in let e : only ≡ only' = cc in (λ i. (row_spliced me.0 (a i) (d i) (e i), me.1))

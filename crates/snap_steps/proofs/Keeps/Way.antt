@@ -24,7 +24,7 @@ use Rattle.snap_stamp.specs.declared.layout.Field.TheVariants.{Key}
 use Rattle.snap_stamp.specs.declared.side.Side.{Side}
 use Rattle.snap_steps.specs.Counting.{Among}
 use Rattle.snap_steps.specs.States.{state_of, link_field}
-use Rattle.snap_steps.specs.Steps.Header.{noted}
+use Rattle.snap_steps.specs.Steps.Header.{word_noted}
 use Rattle.snap_steps.specs.Steps.Way.{set_out_for, begun_again, way_begun_again, goes_on, led_by, comes_to, way_begun, next_point, IsNext, BoundAt, last_point, read_on, next_read, Answers, IsLast, settled_at, ends_at, HasAnswer, answer_read}
 use Rattle.snap_steps.specs.Roles.{is_counted, is_live}
 use Rattle.snap_steps.specs.Rule.History.{AllBegin}
@@ -51,7 +51,7 @@ use Rattle.snap_stamp.specs.declared.side.Side.TheVariants as sides
 -- `set_out`: a load of `done`, by which a way begins
 pub sets_out : (about : About) (slots id : ℕ) (me : Sat) (key : ℕ) → me.0.role ≡ Passing → me.0.joined ≡ [] → Allows (Rule about) slots id me 3 (λ n. n) (way_begun key (step slots 3 0 0 maybe.none) me)
 sets_out about slots id me key passing alone s k wide at small =
-    let v : View = me.0 in let r : ℕ = get_or s.words 3 0 in let is : r ≡ k.m.done = done_is k.memory in let w : View = set_out_for (noted v (Done r)) k.g.history key in
+    let v : View = me.0 in let r : ℕ = get_or s.words 3 0 in let is : r ≡ k.m.done = done_is k.memory in let w : View = set_out_for (word_noted v (Done r)) k.g.history key in
     let own = (k.history.mine id v at).0 (ap is_counted passing) in let seen = (k.history.seen id v at).0 in
     let start = way_starts (state_of k.m k.g) k.g.history key (begins_itself k.g.history) in (
       w,

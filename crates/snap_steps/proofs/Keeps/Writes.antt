@@ -41,7 +41,7 @@ use Rattle.snap_steps.specs.Numbers.{times_drawn}
 use Rattle.snap_steps.specs.Counting.{times}
 use Rattle.snap_steps.specs.Memory.{Row, with_field, row}
 use Rattle.snap_steps.specs.Facts.{IsBorn, IsKnown, fact, forgotten}
-use Rattle.snap_steps.specs.Steps.Writes.{stored, call_of, entry, value_stored, made_entry, absent_confirmed, counted_one, done_counted}
+use Rattle.snap_steps.specs.Steps.Writes.{stored, call_of, entry_of, StoresValue, made_entry, ConfirmsAbsent, counted_one, done_counted}
 use Rattle.snap_steps.specs.Stages.{in_write, is_closing, is_quiet, may_cut, owes_count, has_counted}
 use Rattle.snap_steps.specs.Roles.{is_counted}
 use Rattle.snap_steps.specs.States.{state_of, with_word}
@@ -64,7 +64,7 @@ use Rattle.snap_steps.specs.Steps.Told.{Sat}
 use Rattle.snap_steps.proofs.Classes.Entering.{entering, key_made, value_made, value_is, some_write, born_live}
 use Rattle.snap_steps.specs.Rule.Locks.{KnowsRows}
 use Rattle.snap_steps.proofs.Memories.{loaded, done_is, done_set}
-use Rattle.snap_steps.specs.Rule.Gate.{IsAt}
+use Rattle.snap_steps.specs.Rule.Gate.{KnowsGate}
 use Rattle.snap_steps.proofs.Parts.Counts.{counted_writes}
 use Rattle.snap_steps.proofs.Parts.Uses.{gate_small, used_moves}
 use Rattle.snap_steps.proofs.Parts.Gate.{gated_moves}
@@ -90,7 +90,7 @@ absent_owed {views = views} k id v at e moves =
 
 -- `store_value`
 pub stores : (about : About) (slots id : ℕ) (me : Sat) (r key new : ℕ) → r ≤ about.rows → me.0.role ≡ Passing → me.0.stage ≡ Writing false false → 0 < times r me.0.holds → 0 < times r me.0.trail.reached → IsKnown me.0.words.knows r Key key → IsBorn me.0 r → me.0.doing ≡ Nothing → OwesNothing me.0
-    → Allows (Rule about) slots id me (word_at r Value) (λ _. new) (value_stored (step slots (word_at r Value) new 0 maybe.none) me)
+    → Allows (Rule about) slots id me (word_at r Value) (λ _. new) (StoresValue (step slots (word_at r Value) new 0 maybe.none) me)
 stores about slots id me r key new low passing writing held reached key_known born whole owes s k wide at small =
     let v : View = me.0 in let found : ℕ = get_or s.words (word_at r Value) 0 in let is : found ≡ (row k.m.rows r).value = cell_is k.memory r Value low in let rows_wide = k.memory.wide in
     let near : r < length k.m.rows = omega arith in let x : Row = with_field Value new (row k.m.rows r) in let rows' : List Row = changed k.m.rows r Value new in
@@ -98,7 +98,7 @@ stores about slots id me r key new low passing writing held reached key_known bo
     let is_linked : In r k.g.linked = in_of k.g.linked v.trail.reached r (k.reached id v at) reached in
     let st : Table = state_of k.m k.g in
     let live : IsLive st r = born_live st k.m.rows k.m.epoch v r k.table refl refl refl (k.known id v at) (k.present id v at).0 is_linked born in
-    let e : Entry = entry v.who (call_of key new) (value_of found) in let w : View = stored v k.g.history e r new in
+    let e : Entry = entry_of v.who (call_of key new) (value_of found) in let w : View = stored v k.g.history e r new in
     let may : entry_kinds.MayStoreValue st r e = record { writing = some_write s.views id v k.g.writers at k.writers (ap in_write writing); live = live; key = is_key ∙ sym (key_made key new) } in
     let b : Beside = record k.g { tree = tree_changes.with_value r (call_value (call_of key new)) k.g.tree } in
     let s' : Table = state_of (record k.m { rows = rows' }) (record b { history = k.g.history ++ e ∷ []; writers = k.g.writers }) in
@@ -143,10 +143,10 @@ stores about slots id me r key new low passing writing held reached key_known bo
 
 -- `confirm_absent`
 pub confirms : (about : About) (slots id : ℕ) (me : Sat) (r key : ℕ) → r ≤ about.rows → me.0.role ≡ Passing → me.0.stage ≡ Writing false false → 0 < times r me.0.trail.reached → IsKnown me.0.words.knows r Key key → IsKnown me.0.words.knows r Value 0 → IsBorn me.0 r
-    → Allows (Rule about) slots id me (word_at r Value) (λ n. n) (absent_confirmed key (step slots (word_at r Value) 0 0 maybe.none) me)
+    → Allows (Rule about) slots id me (word_at r Value) (λ n. n) (ConfirmsAbsent key (step slots (word_at r Value) 0 0 maybe.none) me)
 confirms about slots id me r key low passing writing reached key_known value_known born s k wide at small =
     let v : View = me.0 in let known = k.known id v at in let st : Table = state_of k.m k.g in
-    let e : Entry = entry v.who (Remove key) None in let w : View = made_entry v k.g.history e in
+    let e : Entry = entry_of v.who (Remove key) None in let w : View = made_entry v k.g.history e in
     let is_key : (row k.m.rows r).key ≡ key = known_is k.m.rows v.holds v.words.knows r Key key known key_known in
     let is_zero : (row k.m.rows r).value ≡ 0 = known_is k.m.rows v.holds v.words.knows r Value 0 known value_known in
     let live : IsLive st r = born_live st k.m.rows k.m.epoch v r k.table refl refl refl known (k.present id v at).0 (in_of k.g.linked v.trail.reached r (k.reached id v at) reached) born in
@@ -179,7 +179,7 @@ counts_done about slots id me writing s k wide at small =
       tt,
       turning about s.words s.views k id v at (set s.words 3 new) (record k.m { done = new }) v.noted.notes v.noted.handed v.noted.epochs (Writing true true) v.uses v.words.present v.fresh.copies v.debt v.way.reads v.way.place (done_set k.memory new) refl refl (k.notes id v at) (omega (arith, o)) (omega (arith, q)) refl (λ x. omega (arith, k.locked.writing id v at x, a)) ((k.present id v at).0, λ z. absurd (omega (arith, z)))
           (gated_moves s.views id v w at k.m.gate k.m.left k.m.gate k.m.left g (omega arith) (omega (arith, g.one)) (λ some. absurd (omega (arith, g.quiet (omega (arith, total-set (λ u. is_quiet u.stage) s.views id v w at)))))
-          (each_stays s.views id v w at (λ u. IsAt k.m.gate u.stage) g.at (λ p. tt)))
+          (each_stays s.views id v w at (λ u. KnowsGate k.m.gate u.stage) g.at (λ p. tt)))
           (used_moves s.views id v w at k.m.gate k.m.epoch k.m.gate k.m.epoch k.used refl refl refl (omega (arith, c)) (k.used.few id v at).0) (omega arith) (λ z. omega (arith, a)) (λ z. absurd (omega (arith, a, ap in_write (k.acting id v at z).0))) (λ z. absurd (omega (arith, z)))
           ((k.debts id v at).0, (λ z. absurd (omega (arith, z))), λ room ok. owed_itself s.views id v at (state_of k.m k.g) ok) (k.ways id v at, k.places id v at),
       refl,

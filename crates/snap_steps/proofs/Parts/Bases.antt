@@ -12,7 +12,7 @@ use Rattle.snap_steps.specs.Counting.{total}
 use Rattle.snap_steps.specs.Each.{Each}
 use Rattle.snap_steps.specs.Roles.{no_base}
 use Rattle.snap_steps.specs.Rule.{Kept}
-use Rattle.snap_steps.specs.Rule.Bases.{HasCause, IsBase, KnowsBase}
+use Rattle.snap_steps.specs.Rule.Bases.{KeepsCause, IsBase, KnowsBase}
 use Rattle.snap_steps.specs.Stages.{has_cut, in_write, is_quiet, after_left}
 use Rattle.snap_steps.specs.States.{state_of}
 use Rattle.snap_steps.specs.declared.rule.About.{About}
@@ -44,7 +44,7 @@ pub no_base_is : (s : Table) → IsBase s no_base
 unfolding tree_of
 no_base_is s = record { begins = record { rest = s.history; is = refl }; image = record { top = refl; reads = tt; rows = tt }; clone = record { legal = tt; ordered = tt; tells = refl; short = lit< tt }; cause = tt }
 
-cause_kept : (s s' : Table) → Evolves s s' → (b : Balance) → HasCause s b → HasCause s' b
+cause_kept : (s s' : Table) → Evolves s s' → (b : Balance) → KeepsCause s b → KeepsCause s' b
 cause_kept s s' ev Settled h = tt
 cause_kept s s' ev RowsOut h = tt
 cause_kept s s' ev (StampOut row) h = record { linked = ev.linked row h.linked; last = omega (arith, h.last, ev.stamp row (inr h.linked)) }

@@ -7,8 +7,8 @@ use Rattle.snap_steps.specs.Facts.{AreFacts}
 use Rattle.snap_steps.specs.Each.{Each}
 
 -- rows of this pass that aren't linked
-abbrev pub IsOwn : List ℕ → View → Type 0
-IsOwn linked v = (r : ℕ) → Among r v.fresh.own → (times r linked ≡ 0) × (Among r v.drawn)
+abbrev pub OwnsUnlinked : List ℕ → View → Type 0
+OwnsUnlinked linked v = (r : ℕ) → Among r v.fresh.own → (times r linked ≡ 0) × (Among r v.drawn)
 
 abbrev pub KnowsOwn : List Row → View → Type 0
 KnowsOwn rows v = AreFacts rows v.fresh.own v.fresh.wrote
@@ -17,7 +17,7 @@ KnowsOwn rows v = AreFacts rows v.fresh.own v.fresh.wrote
 pub record AreApart (next : ℕ) (rows : List Row) (linked : List ℕ)
     (views : List View) : Type 0 where
   pub low : (r : ℕ) → Among r linked → (0 < r) × (r ≤ next)
-  pub own : Each (IsOwn linked) views
+  pub own : Each (OwnsUnlinked linked) views
   pub fresh : (r : ℕ) → 0 < r → times r linked ≡ 0
       → ((row rows r).lock ≡ 0) × ((row rows r).stamp ≡ 0)
   pub wrote : Each (KnowsOwn rows) views

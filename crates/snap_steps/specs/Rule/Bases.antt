@@ -19,10 +19,10 @@ pub record IsOut (s : Table) (row : ℕ) : Type 0 where
   pub last : last_count ≤ count_of (s.stamp row)
 
 -- the row that a clone has as the cause of its balance is such a row for good
-abbrev pub HasCause : Table → Balance → Type 0
-HasCause s Settled = Unit {0}
-HasCause s RowsOut = Unit {0}
-HasCause s (StampOut row) = IsOut s row
+abbrev pub KeepsCause : Table → Balance → Type 0
+KeepsCause s Settled = Unit {0}
+KeepsCause s RowsOut = Unit {0}
+KeepsCause s (StampOut row) = IsOut s row
 
 -- the tree is the image of its root, its rows are shared, and it tells the map after a beginning of
 -- the history
@@ -30,7 +30,7 @@ pub record IsBase (s : Table) (base : Base) : Type 0 where
   pub begins : Begins base.history s.history
   pub image : IsImage s (root (tree_of base.parts)) (tree_of base.parts)
   pub clone : IsCloneOf base.history (tree_of base.parts)
-  pub cause : HasCause s base.balance
+  pub cause : KeepsCause s base.balance
 
 -- once a closing pass has cut, no write is in progress, the table's root is still the clone's, and
 -- its history is still the clone's

@@ -10,7 +10,7 @@ use Rattle.snap_stamp.specs.declared.layout.Field.TheVariants.{Birth}
 use Rattle.snap_steps.specs.Counting.{Among}
 use Rattle.snap_steps.specs.Facts.{fact}
 use Rattle.snap_steps.specs.Steps.Fields.{read}
-use Rattle.snap_steps.specs.Steps.Header.{noted}
+use Rattle.snap_steps.specs.Steps.Header.{word_noted}
 use Rattle.snap_steps.specs.Steps.Told.{Sat, Has}
 use Rattle.snap_steps.specs.declared.view.View.{View}
 use Rattle.snap_steps.specs.declared.view.WordNote.TheVariants as notes
@@ -27,7 +27,7 @@ born v r b = learnt v r Birth b
 -- and noted, with the key on whose way the row is
 abbrev pub birth_noted : View → ℕ → ℕ → ℕ → View
 birth_noted v key r b =
-    let u : View = noted (born v r b) (notes.Birth key b) in
+    let u : View = word_noted (born v r b) (notes.Birth key b) in
     record u { way = record u.way { confirmed = [] } }
 
 -- no later than the epoch that was loaded

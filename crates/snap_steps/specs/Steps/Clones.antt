@@ -11,7 +11,7 @@ use Rattle.snap_steps.specs.Clones.{image_of, TellsWord}
 use Rattle.snap_steps.specs.Memory.{done_at}
 use Rattle.snap_steps.specs.Roles.{silent}
 use Rattle.snap_steps.specs.Steps.Fields.{is_last}
-use Rattle.snap_steps.specs.Steps.Header.{noted}
+use Rattle.snap_steps.specs.Steps.Header.{word_noted}
 use Rattle.snap_steps.specs.Steps.Told.{Sat, Has}
 use Rattle.snap_steps.specs.declared.view.Balance.{Balance}
 use Rattle.snap_steps.specs.declared.view.Balance.TheVariants.{StampOut}
@@ -39,13 +39,13 @@ root_loaded st m r n = Has m n m.0 × (r ≡ root (image_of m.0)) × (r ≤ m.0.
 -- cut, which goes on from what the pass has seen
 abbrev pub writes_counted : Step (Unit {0}) → Sat → ℕ → Sat → Type 0
 writes_counted st m r n = (st.word ≡ done_at)
-    × Has m n (noted m.0 (Done r))
+    × Has m n (word_noted m.0 (Done r))
     × (r ≡ length m.0.base.history)
     × Begins m.0.seen m.0.base.history
 
 -- a word of a row of the clone
-abbrev pub copied : Step (Unit {0}) → Sat → ℕ → Sat → Type 0
-copied st m r n = (row : ℕ) (field : Field) → st.word ≡ word_at row field
+abbrev pub CopiesCloneWord : Step (Unit {0}) → Sat → ℕ → Sat → Type 0
+CopiesCloneWord st m r n = (row : ℕ) (field : Field) → st.word ≡ word_at row field
     → Has m n m.0 × TellsWord m.0.rows (image_of m.0) row field r
 
 -- the rows with a stamp at its greatest count that a seat has found, once it has loaded this one

@@ -74,6 +74,6 @@ copied v key parent f copy =
       trail = record v.trail { reached = copy ∷ v.trail.reached };
     }
 
-abbrev pub copy_linked : Option ℕ → Step (Unit {0}) → Sat → ℕ → Sat → Type 0
-copy_linked key st m r n = (parent : ℕ) (side : Side) → st.word ≡ word_at parent (link_field side)
+abbrev pub LinksCopy : Option ℕ → Step (Unit {0}) → Sat → ℕ → Sat → Type 0
+LinksCopy key st m r n = (parent : ℕ) (side : Side) → st.word ≡ word_at parent (link_field side)
     → Has m n (copied m.0 key parent (link_field side) st.first)

@@ -16,9 +16,9 @@ aimed_at zero key l = no_debt
 aimed_at (suc n) key l = record { to_do = Some key; list = l; turning = None }
 
 -- that key
-abbrev pub key_at : ℕ → ℕ → Option ℕ
-key_at zero key = None
-key_at (suc n) key = Some key
+abbrev pub to_do_at : ℕ → ℕ → Option ℕ
+to_do_at zero key = None
+to_do_at (suc n) key = Some key
 
 -- the pass has loaded a word that shows why rows may be left unsettled: every row was handed out,
 -- or a stamp is at its greatest count

@@ -53,8 +53,8 @@ read v r f n = record v {
 }
 
 -- a word was stored in a row of the pass that isn't linked
-abbrev pub own_stored : View → ℕ → Field → ℕ → View
-own_stored v r f n = record v {
+abbrev pub own_word_stored : View → ℕ → Field → ℕ → View
+own_word_stored v r f n = record v {
   trail = record v.trail { steps = v.trail.steps + 1 };
   fresh = record v.fresh { wrote = fact r f n ∷ forgotten v.fresh.wrote r f };
 }
@@ -65,4 +65,4 @@ word_loaded st m r n = (row : ℕ) (field : Field) → st.word ≡ word_at row f
     × ((c : ℕ) → Among c (led_to m.0 row field r) → c ≤ m.0.rows)
 
 abbrev pub stored_own : ℕ → Field → Step (Unit {0}) → Sat → ℕ → Sat → Type 0
-stored_own row field st m r n = Has m n (own_stored m.0 row field st.first)
+stored_own row field st m r n = Has m n (own_word_stored m.0 row field st.first)

@@ -10,7 +10,7 @@ use Rattle.snap_steps.specs.declared.view.View.{View}
 use Rattle.snap_steps.specs.declared.view.Stage.TheVariants.{Writing, Closing, Idle}
 use Rattle.snap_steps.specs.Stages.{after_cut}
 use Rattle.snap_steps.specs.Memory.{gate_at}
-use Rattle.snap_steps.specs.Steps.Header.{noted}
+use Rattle.snap_steps.specs.Steps.Header.{word_noted}
 use Rattle.snap_steps.specs.declared.view.WordNote.TheVariants.{Gate}
 use Rattle.snap_steps.specs.Steps.Told.{Sat, Tried, Has}
 use Rattle.snap_steps.specs.Histories.{Extends}
@@ -58,11 +58,12 @@ abbrev pub cut_made : View → List Entry → Tree → (drawn : ℕ) → Balance
 cut_made v seen image drawn balance = cut_with v seen (parts_of image) drawn balance
 
 abbrev pub entering_tried : Step (Unit {0}) → Sat → ℕ → Sat → Type 0
-entering_tried st m r n = (st.word ≡ gate_at) × Tried st m r n (entered m.0) (noted m.0 (Gate r))
+entering_tried st m r n =
+    (st.word ≡ gate_at) × Tried st m r n (entered m.0) (word_noted m.0 (Gate r))
 
 abbrev pub closing_tried : Step (Unit {0}) → Sat → ℕ → Sat → Type 0
 closing_tried st m r n =
-    (st.word ≡ gate_at) × Tried st m r n (closed m.0 st.second) (noted m.0 (Gate r))
+    (st.word ≡ gate_at) × Tried st m r n (closed m.0 st.second) (word_noted m.0 (Gate r))
 
 abbrev pub ended : Step (Unit {0}) → Sat → ℕ → Sat → Type 0
 ended st m r n = Has m n (idled m.0)

@@ -33,8 +33,8 @@ epochs_after h (notes.Epoch e) = max h e
 epochs_after h (notes.Birth k b) = h
 epochs_after h notes.Trouble = h
 
-abbrev pub noted : View → WordNote → View
-noted v n = record v {
+abbrev pub word_noted : View → WordNote → View
+word_noted v n = record v {
   noted = record v.noted {
     notes = v.noted.notes ++ n ∷ [];
     handed = handed_after v.noted.handed n;
@@ -67,18 +67,18 @@ saw v seen = record v { seen = seen; way = record v.way { reads = Resting } }
 -- the epoch was loaded
 abbrev pub epoch_noted : View → ℕ → View
 epoch_noted v n =
-    let u : View = noted v (notes.Epoch n) in
+    let u : View = word_noted v (notes.Epoch n) in
     record u { words = record u.words { present = with_epoch v.stage n v.words.present } }
 
 abbrev pub left_seen : View → ℕ → View
-left_seen v r = record (noted v (notes.Left r)) { stage = after_left v.stage r }
+left_seen v r = record (word_noted v (notes.Left r)) { stage = after_left v.stage r }
 
 abbrev pub next_loaded : Step (Unit {0}) → Sat → ℕ → Sat → Type 0
 next_loaded st m r n =
-    (st.word ≡ next_at) × Has m n (noted m.0 (Next r)) × (r ≤ m.0.rows) × (m.0.base.drawn ≤ r)
+    (st.word ≡ next_at) × Has m n (word_noted m.0 (Next r)) × (r ≤ m.0.rows) × (m.0.base.drawn ≤ r)
 
 abbrev pub gate_loaded : Step (Unit {0}) → Sat → ℕ → Sat → Type 0
-gate_loaded st m r n = (st.word ≡ gate_at) × Has m n (noted m.0 (Gate r))
+gate_loaded st m r n = (st.word ≡ gate_at) × Has m n (word_noted m.0 (Gate r))
 
 abbrev pub left_loaded : Step (Unit {0}) → Sat → ℕ → Sat → Type 0
 left_loaded st m r n = (st.word ≡ left_at) × Has m n (left_seen m.0 r)
@@ -87,7 +87,7 @@ abbrev pub done_loaded : Step (Unit {0}) → Sat → ℕ → Sat → Type 0
 done_loaded st m r n = (st.word ≡ done_at)
     × (seen : List Entry) × Extends m.0 seen
     × (r ≤ length seen)
-    × Has m n (noted (saw m.0 seen) (Done r))
+    × Has m n (word_noted (saw m.0 seen) (Done r))
 
 abbrev pub epoch_loaded : Step (Unit {0}) → Sat → ℕ → Sat → Type 0
 epoch_loaded st m r n = (st.word ≡ epoch_at)

@@ -34,8 +34,8 @@ lifted v parent p r d raised = record v {
 }
 
 -- the parent's link leads to the raised row: each of the three rows has another child
-abbrev pub turned : View → ℕ → Side → ℕ → ℕ → ℕ → View
-turned v parent p r raised key = record v {
+abbrev pub link_turned : View → ℕ → Side → ℕ → ℕ → ℕ → View
+link_turned v parent p r raised key = record v {
   trail = record v.trail { steps = v.trail.steps + 1 };
   doing = Turned r;
   words = record v.words
@@ -62,9 +62,9 @@ HasStamps v parent r raised = ((parent ≡ 0) ⊎ HasStamp v parent) × HasStamp
 abbrev pub turn_stored : Step (Unit {0}) → Sat → ℕ → Sat → Type 0
 turn_stored st m n n' = (parent row raised key : ℕ) (p d : Side)
     → m.0.doing ≡ Lifted parent p row d raised → IsKnown m.0.words.knows row Key key
-    → Has m n' (turned m.0 parent p row raised key)
+    → Has m n' (link_turned m.0 parent p row raised key)
     × ((x : ℕ) → parent ≢ 0 → IsKnown m.0.words.knows parent Stamp x
-    → IsListed parent x (turned m.0 parent p row raised key).debt.list)
+    → IsListed parent x (link_turned m.0 parent p row raised key).debt.list)
 
 -- the row's shrinking mark is cleared
 abbrev pub cleared : View → ℕ → ℕ → View

@@ -1,10 +1,10 @@
 -- Seats that are cut in two and joined.
-use Rattle.std.specs.Prelude.{◌+◌, [], ◌∷◌, ◌++◌, ◌≡◌, ℕ, max, ◌||◌, List}
+use Rattle.std.specs.Prelude.{◌+◌, [], ◌∷◌, ◌++◌, ◌≡◌, ℕ, Bool, max, ◌||◌, List}
 use Rattle.atomic_table.specs.Table.{Step}
 use Rattle.snap_model.specs.History.{IsLegal, calls_of}
 use Rattle.snap_rule.specs.declared.reader.Reading.TheVariants.{Resting}
 use Rattle.snap_steps.specs.declared.view.View.{View}
-use Rattle.snap_steps.specs.Roles.{newcomer, blank}
+use Rattle.snap_steps.specs.Roles.{newcomer, blank_view}
 use Rattle.snap_steps.specs.declared.view.Role.TheVariants.{Noting}
 use Rattle.snap_steps.specs.Histories.{longer}
 use Rattle.snap_steps.specs.Numbers.{admitted_of}
@@ -21,22 +21,27 @@ next_pass v = newcomer v.rows v.passes v.who
 -- what a note keeps of a pass
 abbrev pub note_of : View → View
 note_of v =
-    record (blank v.rows v.passes Noting 0) { seen = v.seen; noted = record v.noted { notes = [] } }
+    record (blank_view v.rows v.passes Noting 0)
+    { seen = v.seen; noted = record v.noted { notes = [] } }
 
--- a view that has come to know what another had seen and noted, where this is what the two have
--- seen together
-abbrev pub heard : View → View → List Entry → View
-heard v w seen =
+-- a view that has come to know what another seat noted: the greatest `next` and `epoch`, and
+-- whether it found a stamp at its greatest count. This is what the two have seen together
+abbrev pub taught : View → (handed epochs : ℕ) → Bool → List Entry → View
+taught v handed epochs worn seen =
     record v {
       seen = seen;
       way = record v.way { reads = Resting };
       noted =
           record v.noted {
-            handed = max v.noted.handed w.noted.handed;
-            epochs = max v.noted.epochs w.noted.epochs;
-            worn = v.noted.worn || w.noted.worn;
+            handed = max v.noted.handed handed;
+            epochs = max v.noted.epochs epochs;
+            worn = v.noted.worn || worn;
           };
     }
+
+-- a view that has come to know what another had seen and noted
+abbrev pub heard : View → View → List Entry → View
+heard v w seen = taught v w.noted.handed w.noted.epochs w.noted.worn seen
 
 -- after a join: the longer history, and both are kept
 abbrev pub learned : View → View → View

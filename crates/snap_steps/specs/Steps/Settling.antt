@@ -77,8 +77,8 @@ heightened v parent r key h = record v {
   };
 }
 
-abbrev pub height_stored : ℕ → ℕ → ℕ → Step (Unit {0}) → Sat → ℕ → Sat → Type 0
-height_stored parent r key st m n n' = Has m n' (heightened m.0 parent r key st.first)
+abbrev pub StoresHeight : ℕ → ℕ → ℕ → Step (Unit {0}) → Sat → ℕ → Sat → Type 0
+StoresHeight parent r key st m n n' = Has m n' (heightened m.0 parent r key st.first)
 
 -- what is known of the row shows that it is settled
 pub record IsSeenSettled (v : View) (r : ℕ) : Type 0 where

@@ -16,7 +16,7 @@ use Rattle.snap_stamp.specs.declared.layout.Field.TheVariants.{Left, Right, Stam
 use Rattle.snap_steps.specs.Histories.{Extends}
 use Rattle.snap_steps.specs.Memory.{gate_at, left_at}
 use Rattle.snap_steps.specs.States.{link_field}
-use Rattle.snap_steps.specs.Steps.Header.{noted}
+use Rattle.snap_steps.specs.Steps.Header.{word_noted}
 use Rattle.snap_steps.specs.Steps.Told.{Sat, Has}
 use Rattle.snap_steps.specs.Steps.Way.{read_on, settled_at, HasAnswer, HasBound}
 use Rattle.snap_steps.specs.declared.view.View.{View}
@@ -28,7 +28,7 @@ load r f x = record { row = r; field = f; found = x }
 
 -- the call begins with this count of ended writes, where row 0 leads to this child
 abbrev pub try_begun : View → ℕ → ℕ → View
-try_begun v ended child = record (noted v (notes.Left ended))
+try_begun v ended child = record (word_noted v (notes.Left ended))
     { tries = Since ended (load 0 Right child ∷ load 0 Stamp 0 ∷ []) 0 (2 ^ 64) child }
 
 -- whether the key lies outside the nearest keys that were passed
@@ -101,7 +101,7 @@ tried_last v seen x =
 -- the gate was loaded after trouble, which ends the call
 abbrev pub busy_seen : View → ℕ → View
 busy_seen v gate =
-    let u : View = noted v (notes.Gate gate) in
+    let u : View = word_noted v (notes.Gate gate) in
     record u { tries = Idle; way = record u.way { reads = Resting } }
 
 -- what a call has loaded of the rows at which its reader stands

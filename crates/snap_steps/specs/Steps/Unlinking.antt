@@ -56,8 +56,8 @@ unlinked v parent p r only key x = record v {
 }
 
 -- the parent's link leads past it
-abbrev pub spliced : View → ℕ → Side → ℕ → View
-spliced v parent p only = record v {
+abbrev pub row_spliced : View → ℕ → Side → ℕ → View
+row_spliced v parent p only = record v {
   trail = record v.trail { steps = v.trail.steps + 1 };
   doing = Nothing;
   words = record v.words
@@ -69,4 +69,4 @@ unlinked_stored parent p r only key st m n n' = Has m n' (unlinked m.0 parent p 
 
 abbrev pub splice_stored : Step (Unit {0}) → Sat → ℕ → Sat → Type 0
 splice_stored st m r n = (parent row only : ℕ) (p : Side) → m.0.doing ≡ Unlinked parent p row only
-    → Has m n (spliced m.0 parent p only)
+    → Has m n (row_spliced m.0 parent p only)

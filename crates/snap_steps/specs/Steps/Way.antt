@@ -13,7 +13,7 @@ use Rattle.snap_stamp.specs.declared.layout.Field.{Field}
 use Rattle.snap_stamp.specs.declared.layout.Field.TheVariants.{Key, Stamp, Value}
 use Rattle.snap_steps.specs.declared.view.View.{View}
 use Rattle.snap_steps.specs.States.{link_field}
-use Rattle.snap_steps.specs.Steps.Header.{noted}
+use Rattle.snap_steps.specs.Steps.Header.{word_noted}
 use Rattle.snap_steps.specs.declared.view.WordNote.TheVariants.{Done}
 use Rattle.snap_steps.specs.Memory.{done_at}
 use Rattle.snap_steps.specs.Steps.Told.{Sat, Has}
@@ -199,7 +199,7 @@ abbrev pub way_begun : ℕ → Step (Unit {0}) → Sat → ℕ → Sat → Type 
 way_begun key st m r n = (st.word ≡ done_at)
     × (seen : List Entry) × Extends m.0 seen
     × (r ≤ length seen)
-    × Has m n (set_out_for (noted m.0 (Done r)) seen key)
+    × Has m n (set_out_for (word_noted m.0 (Done r)) seen key)
 
 abbrev pub way_begun_again : ℕ → Step (Unit {0}) → Sat → ℕ → Sat → Type 0
 way_begun_again key st m r n = Has m n (begun_again m.0 key)

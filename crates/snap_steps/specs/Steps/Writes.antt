@@ -29,19 +29,19 @@ abbrev pub call_of : ℕ → ℕ → Call
 call_of key zero = Remove key
 call_of key (suc v) = Put key v
 
-abbrev pub entry : ℕ → Call → Option ℕ → Entry
-entry who call reply = record { who = who; call = call; reply = reply }
+abbrev pub entry_of : ℕ → Call → Option ℕ → Entry
+entry_of who call reply = record { who = who; call = call; reply = reply }
 
 -- the debt of a write that puts a leaf below the parent, and of one that stores a value word
-abbrev pub leaf_debt : View → ℕ → ℕ → Debt
-leaf_debt v key parent = record {
+abbrev pub leaf_debt_in : View → ℕ → ℕ → Debt
+leaf_debt_in v key parent = record {
   to_do = Some key;
   list = listing parent (word_in v.words.knows parent Stamp) [];
   turning = None;
 }
 
 abbrev pub value_debt : View → ℕ → ℕ → ℕ → Debt
-value_debt v key r zero = leaf_debt v key r
+value_debt v key r zero = leaf_debt_in v key r
 value_debt v key r (suc x) = v.debt
 
 -- the value word of a held row was written, and the entry of the write made
@@ -80,7 +80,7 @@ pub record IsLeaf (v : View) (r a_key a_value : ℕ) : Type 0 where
   pub now : Among birth v.words.present
 
 -- the way of the key ends below the held row: its stamp is as the pass found it, and its link is 0
-pub record IsPlace (v : View) (key parent : ℕ) (f : Field) : Type 0 where
+pub record IsLeafPlace (v : View) (key parent : ℕ) (f : Field) : Type 0 where
   pub held : Among parent v.holds
   pub stamp : ℕ
   pub side : Side
@@ -96,7 +96,7 @@ abbrev pub hung : View → List Entry → Entry → ℕ → Field → ℕ → Vi
 hung v log e parent f r = record v {
   heights = [];
   trail = record v.trail { reached = r ∷ v.trail.reached };
-  debt = leaf_debt v (call_key e.call) parent;
+  debt = leaf_debt_in v (call_key e.call) parent;
   way = record v.way { reads = Resting };
   seen = log ++ e ∷ [];
   mine = v.mine ++ e ∷ [];
@@ -109,24 +109,24 @@ hung v log e parent f r = record v {
 abbrev pub counted_one : View → View
 counted_one v = record v { stage = Writing true true }
 
-abbrev pub value_stored : Step (Unit {0}) → Sat → ℕ → Sat → Type 0
-value_stored st m r n = (row : ℕ) → st.word ≡ word_at row Value
+abbrev pub StoresValue : Step (Unit {0}) → Sat → ℕ → Sat → Type 0
+StoresValue st m r n = (row : ℕ) → st.word ≡ word_at row Value
     → (key : ℕ) × ((x : ℕ) → IsKnown m.0.words.knows row Key x → x ≡ key)
     × ((x : ℕ) → IsKnown m.0.words.knows row Value x → r ≡ x) × (log : List Entry)
-    × Enters m.0 log (entry m.0.who (call_of key st.first) (value_of r))
-    × Has m n (stored m.0 log (entry m.0.who (call_of key st.first) (value_of r)) row st.first)
+    × Enters m.0 log (entry_of m.0.who (call_of key st.first) (value_of r))
+    × Has m n (stored m.0 log (entry_of m.0.who (call_of key st.first) (value_of r)) row st.first)
 
 -- a removal of the key found nothing
-abbrev pub absent_confirmed : ℕ → Step (Unit {0}) → Sat → ℕ → Sat → Type 0
-absent_confirmed key st m r n = (log : List Entry)
-    × Enters m.0 log (entry m.0.who (Remove key) None)
-    × Has m n (made_entry m.0 log (entry m.0.who (Remove key) None))
+abbrev pub ConfirmsAbsent : ℕ → Step (Unit {0}) → Sat → ℕ → Sat → Type 0
+ConfirmsAbsent key st m r n = (log : List Entry)
+    × Enters m.0 log (entry_of m.0.who (Remove key) None)
+    × Has m n (made_entry m.0 log (entry_of m.0.who (Remove key) None))
 
 -- a row with the key and the value was linked below the parent
 abbrev pub leaf_hung : ℕ → ℕ → ℕ → Field → Step (Unit {0}) → Sat → ℕ → Sat → Type 0
 leaf_hung key value parent field st m r n = (log : List Entry)
-    × Enters m.0 log (entry m.0.who (calls.Put key value) None)
-    × Has m n (hung m.0 log (entry m.0.who (calls.Put key value) None) parent field st.first)
+    × Enters m.0 log (entry_of m.0.who (calls.Put key value) None)
+    × Has m n (hung m.0 log (entry_of m.0.who (calls.Put key value) None) parent field st.first)
 
 abbrev pub done_counted : Step (Unit {0}) → Sat → ℕ → Sat → Type 0
 done_counted st m r n = Has m n (counted_one m.0)

@@ -3,7 +3,7 @@ use mathlib.Core.Option.{none}
 use Rattle.atomic_table.specs.Table.{step, Allows}
 use Rattle.snap_steps.specs.Clones.{Cloned, image, TellsWord}
 use Rattle.snap_steps.specs.Roles.{is_live}
-use Rattle.snap_steps.specs.Steps.Clones.{copied, IsSeatOfClone}
+use Rattle.snap_steps.specs.Steps.Clones.{CopiesCloneWord, IsSeatOfClone}
 use Rattle.snap_steps.specs.Steps.Told.{Sat}
 use Rattle.snap_steps.specs.declared.view.View.{View}
 use Rattle.snap_steps.proofs.Cells.{word_within}
@@ -18,7 +18,7 @@ load-requires c =
     let near : c.index_of-word.result < c.rows.inside.table.shared.table_id.words = word_within _ _ c.args.row c.rows.inside.rows c.args.field c.index_of-word.ensures (search rules) c.rows.invariant.words_are in (
       search rules,
       near,
-      subst (λ (i : ℕ). Allows (Rule c.rows.inside.table.shared.key) c.rows.inside.table.shared.table_id.slots c.seat.inside.seat.id c.seat.inside.seat.me i (λ n. n) (copied (step c.rows.inside.table.shared.table_id.slots i 0 0 none) c.seat.inside.seat.me)) (sym c.index_of-word.ensures)
+      subst (λ (i : ℕ). Allows (Rule c.rows.inside.table.shared.key) c.rows.inside.table.shared.table_id.slots c.seat.inside.seat.id c.seat.inside.seat.me i (λ n. n) (CopiesCloneWord (step c.rows.inside.table.shared.table_id.slots i 0 0 none) c.seat.inside.seat.me)) (sym c.index_of-word.ensures)
           (copies c.rows.inside.table.shared.key c.rows.inside.table.shared.table_id.slots c.seat.inside.seat.id c.seat.inside.seat.me c.args.row c.args.field low (ap (λ (x : View). is_live x.role) c.seat.invariant.viewing)),
     )
 

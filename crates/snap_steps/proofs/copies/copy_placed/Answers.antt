@@ -4,7 +4,7 @@ use Rattle.atomic_table.specs.Table.{step, Allows}
 use Rattle.snap_stamp.specs.Layout.{word_at}
 use Rattle.snap_steps.proofs.Classes.Turning.{Rule}
 use Rattle.snap_steps.specs.States.{link_field}
-use Rattle.snap_steps.specs.Steps.Copies.{copied, copy_linked}
+use Rattle.snap_steps.specs.Steps.Copies.{copied, LinksCopy}
 use Rattle.snap_steps.proofs.Passing.{stays_pass, same_pairs}
 use Rattle.snap_steps.proofs.Cells.{word_within}
 use Rattle.snap_steps.proofs.Keeps.Copies.{links_copy}
@@ -17,9 +17,9 @@ store-requires g c =
     let near : c.index_of-word.result < c.rows.inside.table.shared.table_id.words = word_within _ _ c.args.parent c.rows.inside.rows (link_field c.args.side) at (search rules) c.rows.invariant.words_are in (
       search rules,
       near,
-      subst (λ (x : ℕ). Allows (Rule c.rows.inside.table.shared.key) c.rows.inside.table.shared.table_id.slots c.pass.inside.seat.id c.pass.inside.seat.me c.index_of-word.result (λ _. x) (λ _. copy_linked g.J.Copying.key (step c.rows.inside.table.shared.table_id.slots c.index_of-word.result x 0 none) c.pass.inside.seat.me x))
+      subst (λ (x : ℕ). Allows (Rule c.rows.inside.table.shared.key) c.rows.inside.table.shared.table_id.slots c.pass.inside.seat.id c.pass.inside.seat.me c.index_of-word.result (λ _. x) (λ _. LinksCopy g.J.Copying.key (step c.rows.inside.table.shared.table_id.slots c.index_of-word.result x 0 none) c.pass.inside.seat.me x))
           (sym c.number.ensures)
-          (subst (λ (i : ℕ). Allows (Rule c.rows.inside.table.shared.key) c.rows.inside.table.shared.table_id.slots c.pass.inside.seat.id c.pass.inside.seat.me i (λ _. c.args.copy) (λ _. copy_linked g.J.Copying.key (step c.rows.inside.table.shared.table_id.slots i c.args.copy 0 none) c.pass.inside.seat.me c.args.copy))
+          (subst (λ (i : ℕ). Allows (Rule c.rows.inside.table.shared.key) c.rows.inside.table.shared.table_id.slots c.pass.inside.seat.id c.pass.inside.seat.me i (λ _. c.args.copy) (λ _. LinksCopy g.J.Copying.key (step c.rows.inside.table.shared.table_id.slots i c.args.copy 0 none) c.pass.inside.seat.me c.args.copy))
           (sym at)
           (links_copy c.rows.inside.table.shared.key c.rows.inside.table.shared.table_id.slots c.pass.inside.seat.id c.pass.inside.seat.me g.J.Copying.key c.args.parent c.args.side c.args.child c.args.copy low (search rules) (search rules) (search rules) (search rules) (search rules))),
     )

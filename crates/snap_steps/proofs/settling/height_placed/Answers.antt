@@ -4,7 +4,7 @@ use Rattle.atomic_table.specs.Table.{step, Allows}
 use Rattle.snap_stamp.specs.Layout.{word_at}
 use Rattle.snap_stamp.specs.declared.layout.Field.TheVariants.{Height}
 use Rattle.snap_steps.specs.Roles.{is_live}
-use Rattle.snap_steps.specs.Steps.Settling.{heightened, height_stored}
+use Rattle.snap_steps.specs.Steps.Settling.{heightened, StoresHeight}
 use Rattle.snap_steps.specs.declared.view.View.{View}
 use Rattle.snap_steps.proofs.Cells.{word_within}
 use Rattle.snap_steps.proofs.Classes.Turning.{Rule}
@@ -22,7 +22,7 @@ store-requires g c =
     let row : c.args.row ≡ g.J.Raising.lower = c.requires.told.2 in (
       search rules,
       near,
-      subst (λ (i : ℕ). Allows (Rule c.rows.inside.table.shared.key) c.rows.inside.table.shared.table_id.slots c.pass.inside.seat.id c.pass.inside.seat.me i (λ _. c.args.height) (λ _. height_stored g.J.Raising.upper g.J.Raising.lower g.J.Raising.lower_key (step c.rows.inside.table.shared.table_id.slots i c.args.height 0 none) c.pass.inside.seat.me 0))
+      subst (λ (i : ℕ). Allows (Rule c.rows.inside.table.shared.key) c.rows.inside.table.shared.table_id.slots c.pass.inside.seat.id c.pass.inside.seat.me i (λ _. c.args.height) (λ _. StoresHeight g.J.Raising.upper g.J.Raising.lower g.J.Raising.lower_key (step c.rows.inside.table.shared.table_id.slots i c.args.height 0 none) c.pass.inside.seat.me 0))
           (sym (c.index_of-word.ensures ∙ ap (λ (y : ℕ). word_at y Height) row))
           (raises c.rows.inside.table.shared.key c.rows.inside.table.shared.table_id.slots c.pass.inside.seat.id c.pass.inside.seat.me g.J.Raising.upper g.J.Raising.upper_side g.J.Raising.lower g.J.Raising.lower_key c.args.height (subst (λ (y : ℕ). y ≤ c.rows.inside.table.shared.key.rows) row low) (ap is_live c.pass.invariant.pass.passing) (search rules) (search rules) (search rules) (search rules) (search rules)),
     )

@@ -9,7 +9,7 @@ use Rattle.snap_stamp.specs.declared.layout.Field.TheVariants.{Key, Stamp}
 use Rattle.snap_steps.specs.Facts.{IsKnown, word_in}
 use Rattle.snap_steps.specs.Seen.{Known}
 use Rattle.snap_steps.specs.Steps.Debts.{listing}
-use Rattle.snap_steps.specs.Steps.Rotating.{HasStamps, turned, turn_stored}
+use Rattle.snap_steps.specs.Steps.Rotating.{HasStamps, link_turned, turn_stored}
 use Rattle.snap_steps.specs.Steps.Told.{Sat}
 use Rattle.snap_steps.specs.declared.view.View.{View}
 use Rattle.snap_steps.proofs.Cells.{word_within}
@@ -37,7 +37,7 @@ store-requires c =
 pub invariant_of-pass : goal.invariant_of-pass
 invariant_of-pass c =
     let m = c.pass.inside.seat.me in
-    let v : View = turned m.0 c.args.parent c.args.parent_side c.args.row c.args.raised c.args.key in
+    let v : View = link_turned m.0 c.args.parent c.args.parent_side c.args.row c.args.raised c.args.key in
     let t = c.store.ensures.2 c.args.parent c.args.row c.args.raised c.args.key c.args.parent_side c.args.side
     (subst (λ (k : Known). k.view.doing ≡ Lifted c.args.parent c.args.parent_side c.args.row c.args.side c.args.raised) (sym c.pass.view_is) c.requires.change)
     (subst (λ (k : Known). IsKnown k.view.words.knows c.args.row Key c.args.key) (sym c.pass.view_is) c.requires.key) in
@@ -55,7 +55,7 @@ returns-clause-pass c =
     let t = c.store.ensures.2 c.args.parent c.args.row c.args.raised c.args.key c.args.parent_side c.args.side
     (subst (λ (k : Known). k.view.doing ≡ Lifted c.args.parent c.args.parent_side c.args.row c.args.side c.args.raised) (sym c.pass.view_is) c.requires.change)
     (subst (λ (k : Known). IsKnown k.view.words.knows c.args.row Key c.args.key) (sym c.pass.view_is) c.requires.key) in
-    becomes c.args.pass.now c.pass.inside.seat.table_id c.store.new.seat.table_id m c.store.new.seat.me (λ (v : View). turned v c.args.parent c.args.parent_side c.args.row c.args.raised c.args.key) c.pass.view_is c.store.ensures.0 t.0
+    becomes c.args.pass.now c.pass.inside.seat.table_id c.store.new.seat.table_id m c.store.new.seat.me (λ (v : View). link_turned v c.args.parent c.args.parent_side c.args.row c.args.raised c.args.key) c.pass.view_is c.store.ensures.0 t.0
 
 pub returns-clause-listed : goal.returns-clause-listed
 returns-clause-listed c = λ x ne known.

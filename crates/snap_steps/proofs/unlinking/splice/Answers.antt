@@ -3,7 +3,7 @@ use mathlib.Core.Option.{none}
 use Rattle.atomic_table.specs.Table.{step, Allows}
 use Rattle.snap_stamp.specs.Layout.{word_at}
 use Rattle.snap_stamp.specs.declared.layout.Field.{Field}
-use Rattle.snap_steps.specs.Steps.Unlinking.{spliced, splice_stored}
+use Rattle.snap_steps.specs.Steps.Unlinking.{row_spliced, splice_stored}
 use Rattle.snap_steps.specs.declared.view.View.{View}
 use Rattle.snap_steps.proofs.Cells.{word_within}
 use Rattle.snap_steps.proofs.Classes.Turning.{Rule}
@@ -26,6 +26,6 @@ store-requires c =
 pub invariant_of-pass : goal.invariant_of-pass
 invariant_of-pass c =
     let m = c.pass.inside.seat.me in
-    let v : View = spliced m.0 c.args.parent c.args.side c.args.only in
+    let v : View = row_spliced m.0 c.args.parent c.args.side c.args.only in
     stays_pass m c.store.new.seat.me v c.pass.inside.who c.pass.inside.uses c.pass.inside.added c.pass.inside.taken c.pass.inside.added c.pass.inside.taken c.pass.inside.owed c.pass.inside.owed c.pass.invariant.owed_is
     c.pass.invariant (c.store.ensures.2 c.args.parent c.args.row c.args.only c.args.side (search rules)) refl refl refl refl (same_pairs m.0 v c.pass.inside.added c.pass.inside.taken refl refl c.pass.invariant.pairs)

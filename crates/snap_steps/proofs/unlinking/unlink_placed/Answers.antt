@@ -6,7 +6,7 @@ use Rattle.snap_stamp.specs.declared.layout.Field.TheVariants.{Stamp}
 use Rattle.snap_steps.specs.Facts.{word_in}
 use Rattle.snap_steps.specs.Roles.{is_live}
 use Rattle.snap_rule.specs.Debt.Lists.{taken}
-use Rattle.snap_steps.specs.Owed.{Covers, IsWith, less}
+use Rattle.snap_steps.specs.Owed.{NamesEach, IsWith, IsWithout}
 use Rattle.snap_steps.specs.Steps.Debts.{listing}
 use Rattle.snap_steps.specs.Steps.Unlinking.{unlinked, unlinked_stored}
 use Rattle.snap_steps.specs.declared.view.View.{View}
@@ -14,7 +14,7 @@ use Rattle.snap_steps.proofs.Cells.{word_within}
 use Rattle.snap_steps.proofs.Classes.Turning.{Rule}
 use Rattle.snap_steps.proofs.Keeps.Unlinking.{unlinks}
 use Rattle.snap_steps.proofs.Passing.{stays_pass, same_pairs}
-use Rattle.snap_steps.proofs.Tallies.{less_covers, tells_aimed, with_covers}
+use Rattle.snap_steps.proofs.Tallies.{tells_aimed, with_covers, without_covers}
 use Rattle.snap_steps.proofs.unlinking.unlink_placed.Goals as goal
 
 pub store-requires : goal.store-requires
@@ -35,7 +35,7 @@ invariant_of-pass g c =
     let v : View = unlinked m.0 g.J.Leaving.upper g.J.Leaving.upper_side g.J.Leaving.gone g.J.Leaving.only g.J.Leaving.upper_key (c.args.stamp + 1) in
     stays_pass m c.store.new.seat.me v c.pass.inside.who c.pass.inside.uses c.pass.inside.added c.pass.inside.taken c.pass.inside.added c.pass.inside.taken c.pass.inside.owed c.at-owed.result
     (let l = listing g.J.Leaving.upper (word_in m.0.words.knows g.J.Leaving.upper Stamp) m.0.debt.list in
-    let more : Covers c.with_row-listed.result l = with_covers c.pass.inside.owed.listed c.with_row-listed.result g.J.Leaving.upper (word_in m.0.words.knows g.J.Leaving.upper Stamp) m.0.debt.list (subst (λ y. IsWith c.pass.inside.owed.listed y c.with_row-listed.result) c.requires.told.0 c.with_row-listed.ensures) c.pass.invariant.owed_is.rows in
+    let more : NamesEach c.with_row-listed.result l = with_covers c.pass.inside.owed.listed c.with_row-listed.result g.J.Leaving.upper (word_in m.0.words.knows g.J.Leaving.upper Stamp) m.0.debt.list (subst (λ y. IsWith c.pass.inside.owed.listed y c.with_row-listed.result) c.requires.told.0 c.with_row-listed.ensures) c.pass.invariant.owed_is.rows in
     tells_aimed c.at-owed.result c.args.parent g.J.Leaving.upper c.args.parent_key g.J.Leaving.upper_key c.without-fewer.result (taken g.J.Leaving.gone l) c.requires.told.0 c.requires.told.4 c.at-owed.ensures
-    (subst (λ o. Covers o (taken g.J.Leaving.gone l)) (sym (c.without-fewer.ensures ∙ ap (less c.with_row-listed.result) c.requires.told.2)) (less_covers c.with_row-listed.result g.J.Leaving.gone l more)))
+    (without_covers c.with_row-listed.result c.without-fewer.result g.J.Leaving.gone l (subst (λ (y : ℕ). IsWithout c.with_row-listed.result y c.without-fewer.result) c.requires.told.2 c.without-fewer.ensures) more))
     c.pass.invariant c.store.ensures.2 refl refl refl refl (same_pairs m.0 v c.pass.inside.added c.pass.inside.taken refl refl c.pass.invariant.pairs)

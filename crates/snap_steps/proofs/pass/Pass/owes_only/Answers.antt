@@ -1,4 +1,4 @@
-use Rattle.std.proofs.Common.{sym, subst}
+use Rattle.std.proofs.Common.{subst}
 use Rattle.snap_steps.specs.Owed.{ListsOnly}
 use Rattle.snap_steps.specs.Seen.{Known}
 use Rattle.snap_steps.proofs.Tallies.{lists_only}
