@@ -1,12 +1,8 @@
 -- The last rows of a way down, which a repair takes as hints.
 use Rattle.std.specs.Prelude.{◌≡◌, ◌≢◌, ◌⊎◌, ◌≤◌, ◌-◌, ◌==◌, ℕ, List, [], ◌∷◌, ◌++◌, length, All, Option, None, Some, true, if◌then◌else◌, slice_get}
-use Rattle.snap_search.specs.Work.{IsReached}
-use Rattle.snap_search.specs.declared.down.Spot.{Spot}
-use Rattle.snap_search.specs.declared.endings.Ending.{Ending}
-use Rattle.snap_search.specs.declared.kept.Step.{Step}
-use Rattle.snap_search.specs.declared.kept.Way.{Way}
-use Rattle.snap_search.specs.declared.places.Place.{Place}
-use Rattle.snap_search.specs.declared.places.Place.TheVariants.{Here}
+use Rattle.snap_search.specs.{Work.IsReached, declared.down.Spot.Spot, declared.endings.Ending.Ending}
+use Rattle.snap_search.specs.{declared.kept.Step.Step, declared.kept.Way.Way, declared.places.Place.Place}
+use Rattle.snap_search.specs.{declared.places.Place.TheVariants.Here}
 use Rattle.snap_prelude.specs.{Right, View}
 
 abbrev pub step_at : Spot → Step

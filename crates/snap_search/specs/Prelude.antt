@@ -1,13 +1,11 @@
 -- The words of this crate that its proofs and the crates above cite, passed on from one
 -- place. Declares nothing.
 pub use Rattle.snap_search.specs.Answers.{FindsBusy, Reads, ReadsAtOnce, Seeks, with_note}
-pub use Rattle.snap_search.specs.Endings.{end_at, end_below, EndsOn, FindsEnd, Follows, IsAt}
-pub use Rattle.snap_search.specs.Kept.{GoesUp, GoesUpTo, IsStep, IsWay, step_at}
-pub use Rattle.snap_search.specs.Kept.{with_above, with_row, with_step}
-pub use Rattle.snap_search.specs.Places.{AllFrom, Births, births_of, Comes, ComesTo}
-pub use Rattle.snap_search.specs.Places.{EndsAbsent, EndsAt, EndsFrom, EndsHere, EndsOlder}
-pub use Rattle.snap_search.specs.Places.{EndsShared, Finds, Goes, Nears, row_at, WentFrom}
-pub use Rattle.snap_search.specs.Walk.{at_top, Confirms, Ends, HasChild, walked, Walks}
+pub use Rattle.snap_search.specs.Endings.{end_at, end_below, EndsOn, FindsEnd, IsAt, IsWayEnd}
+pub use Rattle.snap_search.specs.Kept.{GoesUp, GoesUpTo, IsStep, IsWay, step_at, with_above, with_row, with_step}
+pub use Rattle.snap_search.specs.Places.{AllFrom, Births, births_of, Comes, ComesTo, EndsAbsent, EndsAt, EndsFrom}
+pub use Rattle.snap_search.specs.Places.{EndsHere, EndsOlder, EndsShared, Finds, Goes, row_at, WentFrom}
+pub use Rattle.snap_search.specs.Walk.{at_top, Ends, walked, Walks}
 pub use Rattle.snap_search.specs.Work.{IsPresent, IsReached, worked, Works}
 pub use Rattle.snap_search.specs.declared.down.Spot.{Spot}
 pub use Rattle.snap_search.specs.declared.endings.Ending.{Ending}

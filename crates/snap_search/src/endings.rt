@@ -1,12 +1,11 @@
 //! The search for the row at which a repair begins. It keeps the last rows of its way, for the turns after the first.
 ghost use Rattle.std.specs.Prelude.{◌≡◌, Bool};
-ghost use Rattle.snap_search.specs.Endings.{FindsEnd, end_at};
-ghost use Rattle.snap_search.specs.Kept.{IsWay, with_above};
+ghost use Rattle.snap_search.specs.{Endings.end_at, Endings.FindsEnd, Kept.IsWay, Kept.with_above};
 ghost use Rattle.snap_prelude.specs.{IsOf, Writing};
 
-use crate::down::{Spot, top};
+use crate::descent::{Descent, descend};
 use crate::kept::Way;
-use crate::places::{Place, look_for_place};
+use crate::places::Place;
 use snap_stamp::{Key, RowNo, Side};
 use snap_steps::{Pass, Rows, load_epoch, set_out_again};
 use std::sync::Wait;
@@ -44,40 +43,28 @@ pub fn find_to_repair<R: Wait>(
 {
     let epoch = load_epoch(rows, pass);
     set_out_again(rows, pass, key);
-    way.clear();
-    let mut above = top();
-    let mut spot = top();
-    for _ in rt.forever() {
-        match look_for_place(rows, pass, key, epoch, &spot) {
-            Ok(place) => {
-                keep_above(way, &place, &spot);
-                return end_from(&place, &above, &spot);
-            }
-            Err(next) => {
-                way.meet(&spot);
-                above = spot;
-                spot = next;
-            }
-        }
-    }
-    unreachable!()
+    let descent = descend(rows, rt, pass, key, epoch, way);
+    keep_above(way, &descent);
+    end_from(&descent)
 }
 
 // Keeps the row above the one with the key. Any other end of a way is the row from which it would go on, and the row
 // above that one is kept already.
-fn keep_above(way: &mut Way, place: &Place, spot: &Spot)
-    ensures { way.new.steps.items ≡ with_above place.now way.old.steps.items spot.now }
+fn keep_above(way: &mut Way, descent: &Descent)
+    ensures { way.new.steps.items
+        ≡ with_above descent.now.place way.old.steps.items descent.now.spot }
 {
-    if let Place::Here { row: _ } = *place {
-        way.meet(spot);
+    if let Place::Here { row: _ } = descent.place {
+        way.meet(&descent.spot);
     }
 }
 
 // The place with the row above its row: where the row has the key, that at which the last step down began.
-fn end_from(place: &Place, above: &Spot, spot: &Spot) -> Ending
-    ensures { result ≡ end_at place.now above.now spot.now }
+fn end_from(descent: &Descent) -> Ending
+    ensures { result ≡ end_at descent.now.place descent.now.above descent.now.spot }
 {
-    match *place {
+    let Descent { place, spot, above } = *descent;
+    match place {
         Place::Here { row } => Ending {
             above: spot.row,
             above_side: spot.side,

@@ -2,11 +2,13 @@
 //! again; where a check fails, the search begins again at row 0.
 #![tactic(auto)]
 
+mod descent;
 mod down;
 mod endings;
 mod kept;
 mod places;
 mod reading;
+mod search;
 mod trying;
 
 pub use down::Spot;
