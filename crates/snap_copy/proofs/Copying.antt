@@ -1,29 +1,23 @@
 -- The child of a held row, and the copy that takes its place.
 use Rattle.std.proofs.Common.{◌≡◌, ◌≢◌, ◌⊎◌, inl, inr, Option, eqb-true, ℕ, ◌+◌, ◌<◌, ◌≤◌, Bool, true, false, cond, nat_lt, lt-ltb, List, [], ◌∷◌, ◌++◌, ◌==◌, ◌&&◌, ◌||◌, eq-eqb, refl, sym, ap, ◌∙◌, subst, arith}
-use Rattle.snap_copy.specs.Filling.{Keeps, Finds, filled, CopiesWord, Fills}
-use Rattle.snap_copy.specs.Mending.{NoWord}
-use Rattle.snap_copy.specs.Owning.{IsOwn, with_copy, IsCopiedAt, Lacks, LacksAt, OwnsAt, Stays, stayed}
-use Rattle.snap_copy.specs.declared.Wanted.{Wanted}
+use Rattle.snap_copy.specs.{Filling.CopiesWord, Filling.filled, Filling.Fills, Filling.FindsChild, Filling.Keeps}
+use Rattle.snap_copy.specs.{Mending.NoWord, Owning.ChangesOnly, Owning.IsCopiedAt, Owning.IsOwn, Owning.Lacks}
+use Rattle.snap_copy.specs.{Owning.LacksAt, Owning.OwnsAt, Owning.stayed, Owning.with_copy, declared.Wanted.Wanted}
 use Rattle.snap_copy.proofs.Keeping.{keeps_on, read_keeps, learnt_keeps, stored_keeps, drew_keeps, noted_keeps, older_still, place_still}
-use Rattle.snap_prelude.specs.{all_noted, AllLeft, Among, Becomes, Birth, born, copied, copies_for}
-use Rattle.snap_prelude.specs.{Done, drew, Epoch, Extends, Fact, Field, forgotten, FoundFull, Gate}
-use Rattle.snap_prelude.specs.{HasDrawn, HasWord, Height, In, is_last, IsBorn, IsCopyPlace}
-use Rattle.snap_prelude.specs.{IsHeldLink, IsKnown, IsOlder, Key, Known, learnt, led_to}
-use Rattle.snap_prelude.specs.{link_field, Next, notes_of, own_stored, place_of, read, removed}
-use Rattle.snap_prelude.specs.{same_field, SeesMore, Side, times, Trouble, Value, View, WordNote}
+use Rattle.snap_prelude.specs.{all_noted, AllLeft, Among, Becomes, Birth, born, copied, copies_for, Done, drew, Epoch}
+use Rattle.snap_prelude.specs.{Extends, Fact, Field, forgotten, FoundFull, Gate, HasDrawn, HasWord, Height, In, is_last}
+use Rattle.snap_prelude.specs.{IsBorn, IsCopyPlace, IsHeldLink, IsKnown, IsOlder, Key, Known, learnt, led_to}
+use Rattle.snap_prelude.specs.{link_field, Next, notes_of, own_word_stored, place_of, read, removed, same_field}
+use Rattle.snap_prelude.specs.{SeesMore, Side, times, Trouble, Value, View, WordNote}
 use Rattle.snap_search.specs.Prelude.{worked, Works}
 use Rattle.snap_search.proofs.Walking.{times-append}
 use Rattle.snap_search.proofs.Working.{grows_on, grows_same, works_on, word_works, notes_on, no_notes}
 use Rattle.snap_stamp.specs.declared.layout.Field.TheVariants.{Left, Right}
 use Rattle.snap_prelude.proofs.Common.{held_link, one_place}
-use Rattle.snap_steps.specs.declared.view.WordNote.TheVariants.{Left as LeftNote}
-use Rattle.snap_steps.specs.declared.view.WordNote.TheVariants.{Birth as BirthNote}
+use Rattle.snap_steps.specs.declared.view.WordNote.TheVariants.{Birth as BirthNote, Left as LeftNote}
 
 abbrev known_as : Known → View → Known
 known_as k v = record { table = k.table; view = v }
-
-abbrev KeptBy : Known → Known → Type 0
-KeptBy old new = Keeps old.view new.view
 
 kept_by : (old new : Known) (w : View) → Becomes old new w → Keeps old.view w → Keeps old.view new.view
 kept_by old new w e k = subst (λ (x : Known). Keeps old.view x.view) (sym e) k
@@ -44,7 +38,7 @@ forgotten_keeps (x ∷ xs) r f g y ne h = go (x.row == r) refl (same_field x.fie
     go false ea b eb (inl e) on = inl e
     go false ea b eb (inr k) on = inr (on k)
 
-pub wrote_still : (old new : Known) (r : ℕ) (f : Field) (x : ℕ) (g : Field) (y : ℕ) → same_field g f ≡ false → Becomes old new (own_stored old.view r f x) → IsKnown old.view.fresh.wrote r g y → IsKnown new.view.fresh.wrote r g y
+pub wrote_still : (old new : Known) (r : ℕ) (f : Field) (x : ℕ) (g : Field) (y : ℕ) → same_field g f ≡ false → Becomes old new (own_word_stored old.view r f x) → IsKnown old.view.fresh.wrote r g y → IsKnown new.view.fresh.wrote r g y
 wrote_still old new r f x g y ne e h = subst (λ (k : Known). IsKnown k.view.fresh.wrote r g y) (sym e) (inr (forgotten_keeps old.view.fresh.wrote r f g y ne h))
 
 one_of : (n : ℕ) → Among n (n ∷ [])
@@ -76,7 +70,7 @@ low_child v rows parent word d f child some_row h by known led =
     led word (subst (λ (g : Field). Among word (led_to v parent g word)) (sym by) (leads v parent word d child h (omega arith)))
 
 pub child_found : (rows : ℕ) (old new : Known) (parent word c : ℕ) (d : Side) (f : Field) (child : ℕ) → child ≢ 0 → IsHeldLink old.view parent d child → f ≡ link_field d → Becomes old new (read old.view parent f word) → ((x : ℕ) → IsKnown old.view.words.knows parent f x → word ≡ x) → word ≤ rows → c ≡ word
-    → Finds rows old new parent d c
+    → FindsChild rows old new parent d c
 child_found rows old new parent word c d f child some_row h by e known low is =
     let theirs : (x : ℕ) → IsKnown old.view.words.knows parent (link_field d) x → c ≡ x = λ (x : ℕ) (k : IsKnown old.view.words.knows parent (link_field d) x). is ∙ known x (subst (λ (g : Field). IsKnown old.view.words.knows parent g x) (sym by) k) in
     let same : c ≡ child = theirs child h.child_is in
@@ -91,11 +85,11 @@ child_found rows old new parent word c d f child some_row h by e known low is =
     }
 
 -- one field of the copy
-pub word_copied : (old mid new : Known) (child copy x : ℕ) (f : Field) → Becomes old mid (learnt old.view child f x) → Becomes mid new (own_stored mid.view copy f x) → CopiesWord old new child copy f
+pub word_copied : (old mid new : Known) (child copy x : ℕ) (f : Field) → Becomes old mid (learnt old.view child f x) → Becomes mid new (own_word_stored mid.view copy f x) → CopiesWord old new child copy f
 word_copied old mid new child copy x f a b =
     let first : mid ≡ filled old mid.view = a ∙ ap (λ (k : Known). filled old k.view) (sym a) in
     let last : new ≡ filled mid new.view = b ∙ ap (λ (k : Known). filled mid k.view) (sym b) in
-    let on = kept_by mid new (own_stored mid.view copy f x) b (stored_keeps mid.view copy f x) in record {
+    let on = kept_by mid new (own_word_stored mid.view copy f x) b (stored_keeps mid.view copy f x) in record {
       is = filled_on old mid new first last;
       keeps = keeps_on old.view mid.view new.view (kept_by old mid (learnt old.view child f x) a (learnt_keeps old.view child f x)) on;
       word = record { word = x; theirs = on.lasting child f x (subst (λ (k : Known). IsKnown k.view.words.lasting child f x) (sym a) (inl (refl, refl, refl))); ours = subst (λ (k : Known). IsKnown k.view.fresh.wrote copy f x) (sym b) (inl (refl, refl, refl)) };
@@ -106,9 +100,9 @@ still_copied : (a b : Known) (child copy : ℕ) (f g : Field) → same_field g f
 still_copied a b child copy f g ne c h = record { word = h.word; theirs = c.keeps.lasting child g h.word h.theirs; ours = c.others g h.word ne h.ours }
 
 -- all fields, and the birth
-pub copy_filled : (a b c d e f g : Known) (child copy epoch : ℕ) → Among copy a.view.fresh.own → Among epoch a.view.words.present → CopiesWord a b child copy Key → CopiesWord b c child copy Height → CopiesWord c d child copy Left → CopiesWord d e child copy Right → CopiesWord e f child copy Value → Becomes f g (own_stored f.view copy Birth epoch) → Fills a g child copy
+pub copy_filled : (a b c d e f g : Known) (child copy epoch : ℕ) → Among copy a.view.fresh.own → Among epoch a.view.words.present → CopiesWord a b child copy Key → CopiesWord b c child copy Height → CopiesWord c d child copy Left → CopiesWord d e child copy Right → CopiesWord e f child copy Value → Becomes f g (own_word_stored f.view copy Birth epoch) → Fills a g child copy
 copy_filled a b c d e f g child copy epoch own now s1 s2 s3 s4 s5 s6 =
-    let k6 = kept_by f g (own_stored f.view copy Birth epoch) s6 (stored_keeps f.view copy Birth epoch) in
+    let k6 = kept_by f g (own_word_stored f.view copy Birth epoch) s6 (stored_keeps f.view copy Birth epoch) in
     let k = keeps_on a.view f.view g.view (keeps_on a.view e.view f.view (keeps_on a.view d.view e.view (keeps_on a.view c.view d.view (keeps_on a.view b.view c.view s1.keeps s2.keeps) s3.keeps) s4.keeps) s5.keeps) k6 in
     let i5 = filled_on a e f (filled_on a d e (filled_on a c d (filled_on a b c s1.is s2.is) s3.is) s4.is) s5.is in
     let is : g ≡ filled a g.view = filled_on a f g i5 (s6 ∙ ap (λ (x : Known). filled f x.view) (sym s6)) in
@@ -136,7 +130,7 @@ pub record Looks (rows : ℕ) (old new : Known) (key : Option ℕ) (at : Wanted)
   pub place : IsCopyPlace new.view key at.parent at.side child
   pub was : IsKnown old.view.words.knows at.parent (link_field at.side) child
   pub past : birth ≤ at.epoch
-  pub stays : Stays old new key NoWord
+  pub stays : ChangesOnly old new key NoWord
   pub low : child ≤ rows
   pub some_row : child ≢ 0
   pub reached : Among child new.view.trail.reached
@@ -153,13 +147,13 @@ born_works old new r b e = record {
 }
 
 -- what a step keeps, where the pass changes in nothing else
-stays_of : (old new : Known) (key : Option ℕ) → new ≡ stayed old new.view → Keeps old.view new.view → Stays old new key NoWord
+stays_of : (old new : Known) (key : Option ℕ) → new ≡ stayed old new.view → Keeps old.view new.view → ChangesOnly old new key NoWord
 stays_of old new key is k = record { is = is; copies = λ z. k.copies; knows = λ q f x ne h. k.knows q f x h; reached = k.reached; present = k.present; lasting = k.lasting; refused = k.refused }
 
-pub stays_by : (old new : Known) (key : Option ℕ) (w : View) → Becomes old new w → known_as old w ≡ stayed old w → Keeps old.view w → Stays old new key NoWord
+pub stays_by : (old new : Known) (key : Option ℕ) (w : View) → Becomes old new w → known_as old w ≡ stayed old w → Keeps old.view w → ChangesOnly old new key NoWord
 stays_by old new key w e same k = stays_of old new key (e ∙ same ∙ ap (λ (x : Known). stayed old x.view) (sym e)) (kept_by old new w e k)
 
-pub stays_on : (a b c : Known) (key : Option ℕ) (changed : ℕ → Field → Type 0) → Stays a b key NoWord → Stays b c key changed → Stays a c key changed
+pub stays_on : (a b c : Known) (key : Option ℕ) (changed : ℕ → Field → Type 0) → ChangesOnly a b key NoWord → ChangesOnly b c key changed → ChangesOnly a c key changed
 stays_on a b c key changed x y = record {
   is = y.is ∙ ap (λ (k : Known). stayed k c.view) x.is;
   copies = λ z. y.copies z ∙ x.copies z;
@@ -170,7 +164,7 @@ stays_on a b c key changed x y = record {
   refused = grows_on a.view.words.refused b.view.words.refused c.view.words.refused x.refused y.refused;
 }
 
-pub looks : (rows : ℕ) (old a new : Known) (key : Option ℕ) (at : Wanted) (child birth : ℕ) → Among at.epoch old.view.words.present → ((c : ℕ) × (c ≢ 0) × IsCopyPlace old.view key at.parent at.side c) → Finds rows old a at.parent at.side child → Becomes a new (born a.view child birth) → ((e : ℕ) → Among e a.view.words.present → birth ≤ e) → Looks rows old new key at child birth
+pub looks : (rows : ℕ) (old a new : Known) (key : Option ℕ) (at : Wanted) (child birth : ℕ) → Among at.epoch old.view.words.present → ((c : ℕ) × (c ≢ 0) × IsCopyPlace old.view key at.parent at.side c) → FindsChild rows old a at.parent at.side child → Becomes a new (born a.view child birth) → ((e : ℕ) → Among e a.view.words.present → birth ≤ e) → Looks rows old new key at child birth
 looks rows old a new key at child birth now place f e past =
     let same = f.known place.0 (held_link old.view key at.parent at.side place.0 place.2).child_is in
     let k0 = kept_by old a (read old.view at.parent (link_field at.side) child) f.step (read_keeps old.view at.parent (link_field at.side) child) in
@@ -314,7 +308,7 @@ forgotten_else (x ∷ xs) r f q g y ne h = go (x.row == r) refl (same_field x.fi
     go false ea b eb (inl e) on = inl e
     go false ea b eb (inr k) on = inr (on k)
 
-stays_copied : (old new : Known) (key : Option ℕ) (parent : ℕ) (d : Side) (copy : ℕ) → Becomes old new (copied old.view key parent (link_field d) copy) → Stays old new key (λ q f. (q ≡ parent) × (f ≡ link_field d))
+stays_copied : (old new : Known) (key : Option ℕ) (parent : ℕ) (d : Side) (copy : ℕ) → Becomes old new (copied old.view key parent (link_field d) copy) → ChangesOnly old new key (λ q f. (q ≡ parent) × (f ≡ link_field d))
 stays_copied old new key parent d copy e = record {
   is = e ∙ ap (λ (k : Known). stayed old k.view) (sym e);
   copies = λ z. ap (λ (k : Known). k.view.fresh.copies) e ∙ ap (copies_for old.view.fresh.copies) z;

@@ -1,12 +1,11 @@
 -- What a pass keeps of what it knew, over loads and stores in its own rows.
 use Rattle.std.proofs.Common.{Option, Some, None, ⊎_elim, ◌≡◌, ◌⊎◌, inl, inr, ℕ, Bool, true, false, cond, ◌||◌, ap, nat_lt, List, [], ◌∷◌, ◌++◌, refl, sym, ◌∙◌, subst, arith}
 use Rattle.snap_copy.specs.Filling.{Keeps}
-use Rattle.snap_search.proofs.Walking.{times-append}
-use Rattle.snap_search.proofs.Working.{with_more, grows_same, grows_on}
+use Rattle.snap_search.proofs.{Walking.times-append, Working.grows_on, Working.grows_same, Working.with_more}
 use Rattle.snap_prelude.specs.{all_noted, AllAre, Among, Birth, ChildHeight, drew, epoch_noted}
 use Rattle.snap_prelude.specs.{fact, Field, Grows, HasHeight, is_last, IsAbove, IsBelow, IsBorn}
 use Rattle.snap_prelude.specs.{IsCopyPlace, IsKnown, IsOlder, IsTilt, Leans, learnt, led_to}
-use Rattle.snap_prelude.specs.{link_field, own_stored, read, Side, Stamp, times, View, WordNote}
+use Rattle.snap_prelude.specs.{link_field, own_word_stored, read, Side, Stamp, times, View, WordNote}
 
 pub keeps_on : (u v w : View) → Keeps u v → Keeps v w → Keeps u w
 keeps_on u v w a b = record {
@@ -46,7 +45,7 @@ learnt_keeps v r f x = record { stage = refl; holds = refl; heights = refl; plac
 pub epoch_keeps : (v : View) (e : ℕ) → Keeps v (epoch_noted v e)
 epoch_keeps v e = record { stage = refl; holds = refl; heights = refl; place = refl; copies = refl; knows = λ q g y h. h; reached = λ n. omega arith; present = λ x h. with_more v.stage e x v.words.present h; lasting = λ q g y h. h; worn = λ h. h; refused = grows_same v.words.refused v.words.refused refl }
 
-pub stored_keeps : (v : View) (r : ℕ) (f : Field) (x : ℕ) → Keeps v (own_stored v r f x)
+pub stored_keeps : (v : View) (r : ℕ) (f : Field) (x : ℕ) → Keeps v (own_word_stored v r f x)
 stored_keeps v r f x = record { stage = refl; holds = refl; heights = refl; place = refl; copies = refl; knows = λ q g y h. h; reached = λ n. omega arith; present = λ e h. h; lasting = λ q g y h. h; worn = λ h. h; refused = grows_same v.words.refused v.words.refused refl }
 
 pub drew_keeps : (v : View) (l : List WordNote) (r : ℕ) → Keeps v (drew (all_noted v l) r)

@@ -5,12 +5,11 @@ use Rattle.snap_copy.specs.Lowering.{IsOwnNow, LacksRows, OwnsLower, wanted}
 use Rattle.snap_copy.specs.Mending.{Firm, LinksWhatItDraws, Mends, MendsTo, NoWord, TellsFull, mended}
 use Rattle.snap_copy.proofs.Copying.{epoch_not_full, stays_by, stays_on, with_copy_on}
 use Rattle.snap_copy.proofs.Keeping.{epoch_keeps, place_still}
-use Rattle.snap_copy.specs.Owning.{IsCopiedAt, IsOwn, Lacks, LacksAt, OwnsAt, Stays, stayed, with_copy}
+use Rattle.snap_copy.specs.Owning.{IsCopiedAt, IsOwn, Lacks, LacksAt, OwnsAt, ChangesOnly, stayed, with_copy}
 use Rattle.snap_copy.specs.declared.Wanted.{Wanted}
-use Rattle.snap_prelude.specs.{all_handed, Among, Becomes, copies_for, Done, Epoch, epoch_noted}
-use Rattle.snap_prelude.specs.{Field, Gate, handed_after, HasHeight, In, IsBelow, IsBelowTilt}
-use Rattle.snap_prelude.specs.{IsBorn, IsKnown, IsTilt, IsWriting, Known, link_field, Next}
-use Rattle.snap_prelude.specs.{NotesMore, other, removed, Side, times, Trouble, View, WordNote}
+use Rattle.snap_prelude.specs.{all_handed, Among, Becomes, copies_for, Done, Epoch, epoch_noted, Field, Gate}
+use Rattle.snap_prelude.specs.{handed_after, HasHeight, In, IsBelow, IsBelowTilt, IsBorn, IsKnown, IsTilt, IsWriting}
+use Rattle.snap_prelude.specs.{Known, link_field, Next, NotesMore, other, removed, Side, times, Trouble, View, WordNote}
 use Rattle.snap_search.specs.Prelude.{Works}
 use Rattle.snap_search.proofs.Walking.{sees_on}
 use Rattle.snap_search.proofs.Working.{epoch_now, epoch_works, notes_on, works_on}
@@ -65,12 +64,12 @@ one_linked old new parent d copy c = record {
 abbrev with_copies : Known → View → List ℕ → Known
 with_copies k w l = record { table = k.table; view = record (stayed k w).view { fresh = record w.fresh { copies = l } } }
 
-stays_mended : (old new : Known) (changed : ℕ → Field → Type 0) → Stays old new None changed → new ≡ mended old new.view
+stays_mended : (old new : Known) (changed : ℕ → Field → Type 0) → ChangesOnly old new None changed → new ≡ mended old new.view
 stays_mended old new changed s =
     let e : new ≡ with_copies old new.view old.view.fresh.copies = s.is ∙ ap (with_copies old new.view) (s.copies refl) in
     e ∙ ap (λ (k : Known). mended old k.view) (sym e)
 
-abbrev stays_mends : (full : Bool) (old new : Known) (changed : ℕ → Field → Type 0) (more : List WordNote) → Stays old new None changed → LinksWhatItDraws old.view new.view → NotesMore old.view new.view more → TellsFull full old.view.rows more → MendsTo full old new
+abbrev stays_mends : (full : Bool) (old new : Known) (changed : ℕ → Field → Type 0) (more : List WordNote) → ChangesOnly old new None changed → LinksWhatItDraws old.view new.view → NotesMore old.view new.view more → TellsFull full old.view.rows more → MendsTo full old new
 stays_mends full old new changed more s links noted found = record {
   is = stays_mended old new changed s;
   whole = ap (λ (k : Known). k.view.doing) s.is;
@@ -84,7 +83,7 @@ stays_mends full old new changed more s links noted found = record {
   refused = s.refused;
 }
 
-stays_firm : (old new : Known) (changed : ℕ → Field → Type 0) → Stays old new None changed → Mends old new → Firm old new changed
+stays_firm : (old new : Known) (changed : ℕ → Field → Type 0) → ChangesOnly old new None changed → Mends old new → Firm old new changed
 stays_firm old new changed s m = record {
   mends = m;
   held = λ r h. subst (λ (k : Known). Among r k.view.holds) (sym s.is) h;
@@ -99,7 +98,7 @@ module _ (old a new : Known) (e : ℕ) (load : Becomes old a (epoch_noted old.vi
   loaded : Works old a (Epoch e ∷ [])
   loaded = epoch_works old a e load
 
-  pub stays_after : (changed : ℕ → Field → Type 0) → Stays a new None changed → Stays old new None changed
+  pub stays_after : (changed : ℕ → Field → Type 0) → ChangesOnly a new None changed → ChangesOnly old new None changed
   stays_after changed s = stays_on old a new None changed (stays_by old a None (epoch_noted old.view e) load refl (epoch_keeps old.view e)) s
 
   knew : (q : ℕ) (f : Field) (x : ℕ) → IsKnown a.view.words.knows q f x → IsKnown old.view.words.knows q f x
@@ -160,7 +159,7 @@ module _ (old a new : Known) (e : ℕ) (load : Becomes old a (epoch_noted old.vi
       link : ℕ → Field → Type 0
       link q g = (q ≡ parent) × (g ≡ link_field d)
 
-      stays : Stays old new None link
+      stays : ChangesOnly old new None link
       stays = stays_after link o.stays
 
       with_load : IsOwn a new [] (wanted parent d e) child ⊎ IsCopiedAt a new None parent d child → IsOwnNow old new parent d child ⊎ IsCopiedAt old new None parent d child
@@ -179,7 +178,7 @@ module _ (old a new : Known) (e : ℕ) (load : Becomes old a (epoch_noted old.vi
       leads (inr c) = c.child_is
 
 -- the row leans still
-tilt_stays : (old new : Known) (upper parent : ℕ) (d : Side) → Stays old new None NoWord → IsTilt old.view upper parent d → IsTilt new.view upper parent d
+tilt_stays : (old new : Known) (upper parent : ℕ) (d : Side) → ChangesOnly old new None NoWord → IsTilt old.view upper parent d → IsTilt new.view upper parent d
 tilt_stays old new upper parent d s t = let l = t.leans in record {
   higher = t.higher;
   leans = record { held = subst (λ (k : Known). Among upper k.view.holds) (sym s.is) l.held; high = l.high; low = l.low; is_high = height t.higher l.high l.is_high; is_low = height (other t.higher) l.low l.is_low; tilts = l.tilts };
@@ -198,7 +197,7 @@ tilt_stays old new upper parent d s t = let l = t.leans in record {
 pub lacks_rows : (rows found : ℕ) (old a new : Known) (e parent upper : ℕ) (d : Side) → Becomes old a (epoch_noted old.view e) → old.view.rows ≡ rows → IsTilt old.view upper parent d → LacksAt rows a new None (wanted parent d e) found → LacksRows rows old new parent d found
 lacks_rows rows found old a new e parent upper d load size tilt l =
     let lacks : Lacks rows old new parent d = lacks_after old a new e load parent d rows l.lacks in let w = lacks.works in
-    let stays : Stays old new None NoWord = stays_after old a new e load NoWord l.stays in record {
+    let stays : ChangesOnly old new None NoWord = stays_after old a new e load NoWord l.stays in record {
       mends = stays_mends true old new NoWord lacks.more stays (none_linked old.view new.view (ap (λ (k : Known). k.view.drawn) w.is) (ap (λ (k : Known). k.view.fresh.own) w.is)) w.noted (subst (λ (n : ℕ). In (Next n) lacks.more) (sym size) lacks.full);
       holds = ap (λ (k : Known). k.view.holds) stays.is;
       wants = record { child = lacks.child; child_is = lacks.child_is; older = lacks.older; upper = upper; tilt = tilt_stays old new upper parent d stays tilt };

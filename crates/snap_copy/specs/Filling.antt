@@ -20,7 +20,8 @@ pub record Keeps (v w : View) : Type 0 where
   pub refused : Grows v.words.refused w.words.refused
 
 -- the pass has loaded the link below the held row, and reached the child to which it leads
-pub record Finds (rows : ℕ) (old new : Known) (parent : ℕ) (side : Side) (child : ℕ) : Type 0 where
+pub record FindsChild (rows : ℕ) (old new : Known) (parent : ℕ) (side : Side)
+    (child : ℕ) : Type 0 where
   pub step : Becomes old new (read old.view parent (link_field side) child)
   pub some_row : child ≢ 0
   pub low : child ≤ rows

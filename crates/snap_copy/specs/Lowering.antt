@@ -1,10 +1,7 @@
 -- What a repair leaves behind where it makes the child of a held row its own.
 use Rattle.std.specs.Prelude.{◌≡◌, ◌≢◌, ◌⊎◌, ◌≤◌, ℕ, [], ◌∷◌, None, true}
-use Rattle.snap_copy.specs.Mending.{Firm, MendsTo}
-use Rattle.snap_copy.specs.Owning.{IsOwn, IsCopiedAt}
-use Rattle.snap_copy.specs.declared.Wanted.{Wanted}
-use Rattle.snap_prelude.specs.{Among, Epoch, IsKnown, IsOlder}
-use Rattle.snap_prelude.specs.{IsTilt, Known, link_field, Side, View}
+use Rattle.snap_copy.specs.{Mending.Firm, Mending.MendsTo, Owning.IsCopiedAt, Owning.IsOwn, declared.Wanted.Wanted}
+use Rattle.snap_prelude.specs.{Among, Epoch, IsKnown, IsOlder, IsTilt, Known, link_field, Side, View}
 
 -- where a row of this epoch is wanted
 abbrev pub wanted : ℕ → Side → ℕ → Wanted

@@ -1,9 +1,8 @@
 -- What repairs leave of a pass: its entries, its turn and its numbers stay, and each row that it
 -- drew is linked.
 use Rattle.std.specs.Prelude.{◌≡◌, ◌≤◌, ◌<◌, ℕ, List, ◌++◌, Bool, true, false}
-use Rattle.snap_prelude.specs.{Among, Field, Grows, In, IsBelow, IsKnown}
-use Rattle.snap_prelude.specs.{KeepsLasting, KeepsPresent, KeepsReached, Known, Next}
-use Rattle.snap_prelude.specs.{NotesMore, same_copies, Side, times, View, WordNote}
+use Rattle.snap_prelude.specs.{Among, Field, Grows, In, IsBelow, IsKnown, KeepsLasting, KeepsPresent, KeepsReached}
+use Rattle.snap_prelude.specs.{Known, Next, NotesMore, same_copies, Side, times, View, WordNote}
 
 -- the pass with what another view has of repairs. What it has seen stays, since it ends with the
 -- entry of its write, and so does the key of its copies

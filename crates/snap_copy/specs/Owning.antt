@@ -1,7 +1,6 @@
 -- What a write leaves behind where it makes the child of a held row its own.
 use Rattle.std.specs.Prelude.{◌≡◌, ◌≢◌, ◌⊎◌, ◌≤◌, ℕ, List, [], ◌∷◌, ◌++◌, Option, None, Some}
-use Rattle.snap_copy.specs.Mending.{NoWord}
-use Rattle.snap_copy.specs.declared.Wanted.{Wanted}
+use Rattle.snap_copy.specs.{Mending.NoWord, declared.Wanted.Wanted}
 use Rattle.snap_prelude.specs.{Among, Birth, copied, copies_for, Field, Grows, In, IsCopy, IsKnown}
 use Rattle.snap_prelude.specs.{IsOlder, KeepsLasting, KeepsPresent, KeepsReached, Known, link_field}
 use Rattle.snap_prelude.specs.{Next, NotesMore, removed, SeesMore, Side, View, WordNote}
@@ -74,7 +73,8 @@ stayed k w =
 
 -- nothing else of the pass changed, and what it knew it still knows, but of some words. Without a
 -- key its copies have the keys that they had
-pub record Stays (old new : Known) (key : Option ℕ) (changed : ℕ → Field → Type 0) : Type 0 where
+pub record ChangesOnly (old new : Known) (key : Option ℕ)
+    (changed : ℕ → Field → Type 0) : Type 0 where
   pub is : new ≡ stayed old new.view
   pub copies : key ≡ None → new.view.fresh.copies ≡ old.view.fresh.copies
   pub knows : (q : ℕ) (f : Field) (x : ℕ) → (changed q f → ⊥) → IsKnown old.view.words.knows q f x
@@ -88,7 +88,7 @@ pub record Stays (old new : Known) (key : Option ℕ) (changed : ℕ → Field �
 pub record OwnsAt (rows : ℕ) (old new : Known) (key : Option ℕ) (at : Wanted)
     (row : ℕ) : Type 0 where
   pub owns : IsOwn old new [] at row ⊎ IsCopiedAt old new key at.parent at.side row
-  pub stays : Stays old new key (λ q f. (q ≡ at.parent) × (f ≡ link_field at.side))
+  pub stays : ChangesOnly old new key (λ q f. (q ≡ at.parent) × (f ≡ link_field at.side))
   pub low : row ≤ rows
   pub is_row : row ≢ 0
   pub reached : Among row new.view.trail.reached
@@ -98,4 +98,4 @@ pub record LacksAt (rows : ℕ) (old new : Known) (key : Option ℕ) (at : Wante
     (found : ℕ) : Type 0 where
   pub all : found ≡ rows
   pub lacks : Lacks rows old new at.parent at.side
-  pub stays : Stays old new key NoWord
+  pub stays : ChangesOnly old new key NoWord

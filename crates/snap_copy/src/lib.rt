@@ -2,9 +2,8 @@
 #![tactic(auto)]
 
 ghost use Rattle.std.specs.Prelude.{◌≡◌, ◌≢◌, ◌<◌, ◌≤◌, ℕ, false, MatchResult, None, Some};
-ghost use Rattle.snap_copy.specs.Lowering.{OwnsLower, LacksRows};
-ghost use Rattle.snap_copy.specs.Owning.{OwnsAt, LacksAt};
-ghost use Rattle.snap_copy.specs.Filling.{Finds, Fills, CopiesWord};
+ghost use Rattle.snap_copy.specs.{Lowering.LacksRows, Lowering.OwnsLower, Owning.LacksAt, Owning.OwnsAt};
+ghost use Rattle.snap_copy.specs.{Filling.CopiesWord, Filling.Fills, Filling.FindsChild};
 ghost use Rattle.snap_prelude.specs.{Among, IsAbove, IsBorn, IsCopyPlace, IsHeldLink, IsOf};
 ghost use Rattle.snap_prelude.specs.{IsOlder, IsTilt, IsWriting, Lock, Nothing, Stamp, Writing};
 
@@ -112,7 +111,7 @@ fn child_of(rows: &Rows, pass: &mut Pass, parent: RowNo, side: Side) -> RowNo
     requires table { IsOf pass.old rows.now }
     requires parent { parent ≤ rows.now.rows }
     requires place { (child : ℕ) × (child ≢ 0) × IsHeldLink pass.old.view parent side child }
-    ensures { Finds rows.now.rows pass.old pass.new parent side result }
+    ensures { FindsChild rows.now.rows pass.old pass.new parent side result }
 {
     let word = load_word(rows, pass, parent, side.link());
     rows.row_of(word)

@@ -4,24 +4,17 @@ use Rattle.snap_prelude.proofs.Common.{All, dite, slice_get_within, times-append
 use Rattle.std.proofs.lemmas.List.Elements.{All-get_or, All-pop}
 use Rattle.std.proofs.lemmas.Option.{get_or_from_slice_get}
 use Rattle.snap_repair.proofs.Mending.{births_not_full, mends_on, works_mends}
-use Rattle.snap_repair.specs.Mending.{Looks}
-use Rattle.snap_repair.specs.Rising.{GoesTo, MayEndOn}
+use Rattle.snap_repair.specs.{Mending.Looks, Rising.GoesTo, Rising.MayEndOn}
 use Rattle.snap_prelude.specs.{Among, Becomes, Epoch, Field, KeepsReached, Known}
 use Rattle.snap_prelude.specs.{led_to, link_field, On, read, Standing, times, View}
 use Rattle.snap_search.specs.Prelude.{births_of, EndsOn, FindsEnd, GoesUp, GoesUpTo, IsStep, IsWay}
-use Rattle.snap_search.specs.declared.endings.Ending.{Ending}
-use Rattle.snap_search.specs.declared.kept.Step.{Step}
-use Rattle.snap_search.specs.declared.kept.Way.{Way}
+use Rattle.snap_search.specs.{declared.endings.Ending.Ending, declared.kept.Step.Step, declared.kept.Way.Way}
 use Rattle.snap_shape.proofs.Children.{led_from}
 
 -- an end that a search found
 may_end : (rows : ℕ) (v : View) (key : ℕ) (e : Ending) → EndsOn rows v key e → MayEndOn rows v key e
 may_end rows v key e ends = record {
-  low = ends.low;
-  reached = ends.reached;
-  above = ends.above;
-  on_right = ends.on_right;
-  faces = ends.faces;
+  is_end = ends.is_end;
   place = λ here. ends.place ∙ ap (λ (b : Bool). On key (Standing (cond b e.above e.row) e.stamp e.side)) here;
 }
 
@@ -52,11 +45,13 @@ kept_ends rows v key old new e up are =
     let last : IsStep rows v up.last = split.1 in
     let above : IsStep rows v up.above = lowest_step rows v new.steps.items up.above up.is_above split.0 in
     subst (MayEndOn rows v key) (sym up.is_end) (record {
-      low = (last.low, above.low);
-      reached = last.reached;
-      above = above.reached;
-      on_right = above.on_right;
-      faces = last.on_right;
+      is_end = record {
+        low = (last.low, above.low);
+        reached = last.reached;
+        above = above.reached;
+        on_right = above.on_right;
+        faces = last.on_right;
+      };
       place = λ here. cc;
     })
 

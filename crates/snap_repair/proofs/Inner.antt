@@ -1,21 +1,18 @@
 -- The double rotation: what each of its parts leaves for the next.
 use Rattle.std.proofs.Common.{append_assoc, ◌≡◌, ◌≢◌, ◌∙◌, ◌∷◌, ◌++◌, inl, inr, ℕ, List, [], Bool, true, false, cond, le-leb, Option, Some, None, refl, sym, ap, subst, arith, zero, suc, ⊎_elim, ◌||◌}
 use Rattle.snap_prelude.proofs.Common.{Snapshot}
-use Rattle.snap_repair.specs.Answers.{FindsWorn, Frees, IsMending, IsRefused, IsToLower, IsWornOut, Stops, Tries, freed, stops_full}
+use Rattle.snap_repair.specs.Answers.{FindsWorn, Frees, IsMending, IsRefused, IsToLower, IsWornOut, Stops, TriesRepair, freed, stops_full}
 use Rattle.snap_repair.specs.declared.answer.Repaired.TheVariants.{Done, RowsOut, StampOut}
-use Rattle.snap_repair.specs.Mending.{Looks, Mends, mended}
-use Rattle.snap_repair.specs.Raising.{Lifts}
-use Rattle.snap_repair.specs.declared.answer.Repaired.{Repaired}
+use Rattle.snap_repair.specs.{Mending.Looks, Mending.mended, Mending.Mends, Raising.Lifts}
+use Rattle.snap_repair.specs.{declared.answer.Repaired.Repaired}
 use Rattle.snap_prelude.specs.{aimed_at, aimed_view, Among, Becomes, count_of, Fact, fact, Field}
 use Rattle.snap_prelude.specs.{is_last, IsHeldRow, IsKnown, Known, last_count, link_field, Mark}
 use Rattle.snap_prelude.specs.{MayAimAt, Nothing, other, read, Side, Stamp, times, unlocked, View}
 use Rattle.snap_search.proofs.Working.{grows_read, no_notes}
 use Rattle.snap_shape.proofs.Shaping.{born, edge_stays, pair_of}
 use Rattle.snap_shape.proofs.Touching.{None as NoOther, Stays, grip_stays, loaded}
-use Rattle.snap_shape.specs.Grips.{HasGrip, IsEdge, IsTurning, Leads, edge_at, turn_at}
-use Rattle.snap_shape.specs.Shapes.{Rotates, later}
-use Rattle.snap_shape.specs.declared.grip.Grip.{Grip}
-use Rattle.snap_shape.specs.declared.grip.Turn.{Turn}
+use Rattle.snap_shape.specs.{Grips.edge_at, Grips.HasGrip, Grips.IsEdge, Grips.IsTurning, Grips.Leads, Grips.turn_at}
+use Rattle.snap_shape.specs.{Shapes.later, Shapes.Rotates, declared.grip.Grip.Grip, declared.grip.Turn.Turn}
 use Rattle.snap_repair.proofs.Mending.{edge_looks, grip_looks, keeps_holds, keeps_mends, looks_on, mends_on, mends_to, no_rows, read_looks}
 
 -- a pass that repairs goes on with it
@@ -121,10 +118,10 @@ stops_by rows a b c row (Some Done) h e = ap (λ (k : Known). k.view.debt) e ∙
 stops_by rows a b c row (Some (RowsOut n at)) h e = record { all = h.all; before = h.before; parent = h.parent; side = h.side; wants = h.wants; after = frees_then at.value b c row h.after e; full = omega (arith, h.full, ap (λ (k : Known). k.view.noted.handed) e) }
 stops_by rows a b c row (Some (StampOut r at)) h e = record { before = h.before; last = h.last; to_lower = h.to_lower; noted = refused_by a b c r h.last.stamp h.noted (ap (λ (k : Known). k.view.words.refused) e); after = frees_then at.value b c row h.after e; worn = ap (λ (k : Known). k.view.noted.worn) e ∙ h.worn }
 
-pub tries_after : (rows : ℕ) (a b c : Known) (o : Option Repaired) → Mends a b → b.view.holds ≡ a.view.holds → Tries rows b c o → Tries rows a c o
+pub tries_after : (rows : ℕ) (a b c : Known) (o : Option Repaired) → Mends a b → b.view.holds ≡ a.view.holds → TriesRepair rows b c o → TriesRepair rows a c o
 tries_after rows a b c o m h t = record { mends = mends_to (stops_full o) a b c m t.mends; holds = t.holds ∙ h; stops = stops_to rows a b c o m t.stops }
 
-pub stops_none : (rows : ℕ) (a b : Known) → Mends a b → b.view.holds ≡ a.view.holds → Tries rows a b None
+pub stops_none : (rows : ℕ) (a b : Known) → Mends a b → b.view.holds ≡ a.view.holds → TriesRepair rows a b None
 stops_none rows a b m h = record { mends = m; holds = h; stops = tt }
 
 -- a look that finds the stamp of a row that is to be lowered at the greatest count
@@ -136,7 +133,7 @@ pub worn_after : (a b c : Known) (r : ℕ) → Looks a b → FindsWorn b c r →
 worn_after a b c r s w = record { looks = looks_on a b c s w.looks; last = w.last; noted = refused_to a b c r w.last.stamp s.0.mends w.noted }
 
 -- a try stops there
-pub stops_worn : (rows : ℕ) (a b : Known) (row : ℕ) (at : Snapshot Known) → at.value ≡ b → b.view.holds ≡ a.view.holds → (w : IsWornOut a b b row) → Mends a b → Tries rows a b (Some (StampOut row at))
+pub stops_worn : (rows : ℕ) (a b : Known) (row : ℕ) (at : Snapshot Known) → at.value ≡ b → b.view.holds ≡ a.view.holds → (w : IsWornOut a b b row) → Mends a b → TriesRepair rows a b (Some (StampOut row at))
 stops_worn rows a b row at is h w m = record { mends = m; holds = h; stops = subst (λ (k : Known). IsWornOut a b k row) (sym is) w }
 
 -- the load of a held row's stamp that finds it so
@@ -175,12 +172,6 @@ held_row v g h = (h.held, ⊎_elim (λ z. inl z) (λ o. inr (o.reached, born v g
 
 pub aimed_grip : (a b : Known) (r key : ℕ) (g : Grip) → ((x : ℕ) × Becomes a b (aimed_view a.view r key x)) → HasGrip a.view g → HasGrip b.view g
 aimed_grip a b r key g h i = grip_stays a b NoOther g (aimed_stays a b r key h) (λ z. z) (λ z. z) (λ z. z) i
-
-pub aimed_edge : (a b : Known) (r key : ℕ) (upper lower : Grip) (d : Side) → ((x : ℕ) × Becomes a b (aimed_view a.view r key x)) → IsEdge a.view (edge_at upper d lower) → IsEdge b.view (edge_at upper d lower)
-aimed_edge a b r key upper lower d h e = edge_stays a b NoOther upper lower d (aimed_stays a b r key h) (λ i z. z) (λ i z. z) e
-
-pub aimed_to_do : (a b : Known) (r key : ℕ) → r ≢ 0 → ((x : ℕ) × Becomes a b (aimed_view a.view r key x)) → b.view.debt.to_do ≡ Some key
-aimed_to_do a b r key nz h = ap (λ (k : Known). k.view.debt.to_do) h.1 ∙ aimed_key r key a.view.debt.list nz
 
 -- the first of two rotations and what follows it leave the three rows ready for the second
 pub record IsReadyAgain (a h : Known) (t : Turn) (raised : Grip) : Type 0 where

@@ -1,21 +1,17 @@
 -- A row that gets its right height, and the to-do key that goes up.
-use Rattle.std.proofs.Common.{◌≡◌, ◌≢◌, ◌∙◌, ◌⊎◌, ◌∷◌, ◌==◌, inl, inr, ℕ, zero, suc, List, [], Bool, true, false, cond, eqb-true, Some, refl, sym, ap, subst, arith, ⊎_elim}
+use Rattle.std.proofs.Common.{◌≡◌, ◌≢◌, ◌∙◌, ◌⊎◌, ◌∷◌, ◌==◌, inl, inr, ℕ, zero, suc, List, [], Bool, true, false, cond, eqb-true, refl, sym, ap, subst, arith, ⊎_elim}
 use Rattle.snap_prelude.proofs.Common.{dite, ℕ_discrete}
-use Rattle.snap_repair.specs.Answers.{EndsRepair}
-use Rattle.snap_repair.specs.Looking.{HasLook, IsEven, Routes, ShowsSettled, height_over}
-use Rattle.snap_repair.specs.Mending.{Looks, Mends, mended}
-use Rattle.snap_repair.specs.Raising.{Heightens, Lifts, SetsRight}
-use Rattle.snap_repair.specs.declared.look.Look.{Look}
-use Rattle.snap_prelude.specs.{aimed_at, Among, Becomes, Birth, ChildHeight, Field}
-use Rattle.snap_prelude.specs.{HasHeight, Height, heightened, heights_forgotten, IsBelow}
-use Rattle.snap_prelude.specs.{IsKnown, IsListed, IsRightHeight, IsSeenSettled, Key, key_at}
-use Rattle.snap_prelude.specs.{Known, link_field, Mark, or_else, passed_up, settled_last}
-use Rattle.snap_prelude.specs.{Side, Stamp, taken, times, Value, View, word_in}
+use Rattle.snap_repair.specs.{Answers.EndsRepair, Looking.HasLook, Looking.height_over, Looking.IsEven}
+use Rattle.snap_repair.specs.{Looking.LooksSettled, Looking.Routes, Mending.Looks, Mending.mended, Mending.Mends}
+use Rattle.snap_repair.specs.{Raising.Heightens, Raising.Lifts, Raising.SetsRight, declared.look.Look.Look}
+use Rattle.snap_prelude.specs.{aimed_at, Among, Becomes, Birth, ChildHeight, Field, HasHeight, Height, heightened}
+use Rattle.snap_prelude.specs.{heights_forgotten, IsBelow, IsKnown, IsListed, IsRightHeight, IsSeenSettled, Key, Known}
+use Rattle.snap_prelude.specs.{link_field, Mark, passed_up, settled_last, Side, Stamp, taken, times, to_do_at}
+use Rattle.snap_prelude.specs.{Value, View, word_in}
 use Rattle.snap_search.proofs.Working.{grows_same, no_notes}
 use Rattle.snap_shape.proofs.Touching.{One, stored, stored_here}
-use Rattle.snap_shape.specs.Grips.{HasGrip, IsEdge, IsOfNow, edge_at}
-use Rattle.snap_shape.specs.Shapes.{Unlinks}
-use Rattle.snap_shape.specs.declared.grip.Grip.{Grip}
+use Rattle.snap_shape.specs.{Grips.edge_at, Grips.HasGrip, Grips.IsEdge, Grips.IsOfNow, Shapes.Unlinks}
+use Rattle.snap_shape.specs.{declared.grip.Grip.Grip}
 use Rattle.snap_stamp.specs.declared.layout.Field.TheVariants.{Left, Right}
 use Rattle.snap_repair.proofs.Mending.{grip_looks, keeps_holds, keeps_mends, mends_on, no_rows}
 use Rattle.snap_repair.proofs.Raising.{grip_height, link_no_height, listed_more, stored_mends}
@@ -48,15 +44,6 @@ below_else (x ∷ xs) p r d h ne i = go (x.row == p) refl i (λ k. below_else xs
     go true ea (inr k) on = on k
     go false ea (inl e) on = inl e
     go false ea (inr k) on = inr (on k)
-
--- the height was right already
-pub right_already : (a : Known) (parent row : Grip) (rows : ℕ) (l : Look) → a.view.debt.to_do ≡ Some row.key → HasLook rows a.view row.row l → l.height ≡ height_over l → SetsRight a a row l
-right_already a parent row rows l to_do look same = record {
-  heightens = record { mends = mends_itself a; holds = refl; knows = λ q f x ne h. h; listed = λ n x h. h; to_do = to_do ∙ sym (ap (λ o. or_else o row.key) to_do) };
-  height = subst (IsKnown a.view.words.knows row.row Height) same look.height;
-  left_height = look.left_height;
-  right_height = look.right_height;
-}
 
 -- or it was stored
 pub right_now : (a b : Known) (parent row : Grip) (rows : ℕ) (l : Look) (h : ℕ) → parent.row ≢ row.row → HasLook rows a.view row.row l → h ≡ height_over l → Becomes a b (heightened a.view parent.row row.row row.key h) → SetsRight a b row l
@@ -98,7 +85,7 @@ seen_settled a b parent row rows l look even full s = record {
     kept f x ne h = s.heightens.knows row.row f x (λ z. ne z.1) h
 
 -- and so does what was loaded of it
-pub look_settled : (v : View) (r rows : ℕ) (l : Look) → HasLook rows v r l → ShowsSettled l → IsSeenSettled v r
+pub look_settled : (v : View) (r rows : ℕ) (l : Look) → HasLook rows v r l → LooksSettled l → IsSeenSettled v r
 look_settled v r rows l look s = record {
   height = l.height;
   left = l.left_height;
@@ -153,7 +140,7 @@ same_grip b c g knows holds reached present h = record {
     own (inl z) = inl z
     own (inr o) = inr (record { reached = subst (Among g.row) (sym reached) o.reached; birth = o.birth; is_birth = subst (λ l. IsKnown l g.row Birth o.birth) (sym knows) o.is_birth; now = subst (Among o.birth) (sym present) o.now })
 
-aimed_to : (n key : ℕ) (l : List Mark) → (aimed_at n key l).to_do ≡ key_at n key
+aimed_to : (n key : ℕ) (l : List Mark) → (aimed_at n key l).to_do ≡ to_do_at n key
 aimed_to zero key l = refl
 aimed_to (suc n) key l = refl
 
@@ -165,7 +152,7 @@ lifts a b c parent row l s e = record {
   grips = λ g ne h. same_grip b c g (ap (λ (k : Known). k.view.words.knows) e) (ap (λ (k : Known). k.view.holds) e) (ap (λ (k : Known). k.view.trail.reached) e) (ap (λ (k : Known). k.view.words.present) e) (grip_height a b parent row g s.heightens h);
 }
 
-pub lifted_to : (b c : Known) (p key r : ℕ) → Becomes b c (passed_up b.view p key r) → c.view.debt.to_do ≡ key_at p key
+pub lifted_to : (b c : Known) (p key r : ℕ) → Becomes b c (passed_up b.view p key r) → c.view.debt.to_do ≡ to_do_at p key
 lifted_to b c p key r e = ap (λ (k : Known). k.view.debt.to_do) e ∙ aimed_to p key (taken r b.view.debt.list)
 
 -- an unlinking, and a look alone, as parts of it
@@ -176,9 +163,6 @@ unlinks_lifts a b c parent row d only whole s u = record {
   others = λ q f x n1 n2 h. u.keeps.others q f x n1 n2 n2 (s.0.knows q f x (λ z. z) h);
   grips = λ g ne h. u.keeps.grips g ne (grip_looks a b g s h);
 }
-
-pub looks_lifts : (a b : Known) (parent row : Grip) → Looks a b → Lifts a b parent row
-looks_lifts a b parent row s = record { mends = s.0.mends; holds = s.1; others = λ q f x n1 n2 h. s.0.knows q f x (λ z. z) h; grips = λ g ne h. grip_looks a b g s h }
 
 pub lifts_after : (a b c : Known) (parent row : Grip) → Looks a b → Lifts b c parent row → Lifts a c parent row
 lifts_after a b c parent row s u = record {

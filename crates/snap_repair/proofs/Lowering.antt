@@ -3,19 +3,16 @@ use Rattle.std.proofs.Common.{◌≡◌, ◌≢◌, ◌≤◌, ◌<◌, ◌∙�
 use Rattle.snap_prelude.proofs.Common.{dite, Snapshot, ℕ_discrete}
 use Rattle.snap_locks.specs.Held.{HasLocked}
 use Rattle.snap_repair.proofs.Inner.{stops_by, stops_to}
-use Rattle.snap_repair.specs.Answers.{IsRowsOut, Tries, stops_full}
-use Rattle.snap_repair.specs.Looking.{HasLook, LeansTo, child_on, height_on}
+use Rattle.snap_repair.specs.{Answers.IsRowsOut, Answers.stops_full, Answers.TriesRepair, Looking.child_on}
+use Rattle.snap_repair.specs.{Looking.HasLook, Looking.height_on, Looking.LeansTo, Lowering.HasChildOn}
+use Rattle.snap_repair.specs.{Lowering.IsHigher, Lowering.LacksRows, Lowering.OwnsLower, Mending.Looks, Mending.mended}
+use Rattle.snap_repair.specs.{Mending.Mends, Mending.NoWord, declared.answer.Repaired.Repaired}
+use Rattle.snap_repair.specs.{declared.answer.Repaired.TheVariants.RowsOut, declared.look.Look.Look}
 use Rattle.snap_prelude.specs.{Among, Becomes, HasHeight, IsKnown, IsTilt, Known, Leans}
 use Rattle.snap_prelude.specs.{link_field, other, removed, Side, times, unlocked, View}
-use Rattle.snap_repair.specs.Lowering.{HasChild, IsHigher, LacksRows, OwnsLower}
-use Rattle.snap_repair.specs.Mending.{Looks, Mends, NoWord, mended}
-use Rattle.snap_repair.specs.declared.answer.Repaired.{Repaired}
-use Rattle.snap_repair.specs.declared.answer.Repaired.TheVariants.{RowsOut}
-use Rattle.snap_repair.specs.declared.look.Look.{Look}
 use Rattle.snap_search.proofs.Working.{grows_same, no_notes}
 use Rattle.snap_shape.proofs.Touching.{link_no_birth, link_no_key, link_no_stamp}
-use Rattle.snap_shape.specs.Grips.{HasGrip, IsEdge, Leads, edge_at}
-use Rattle.snap_shape.specs.declared.grip.Grip.{Grip}
+use Rattle.snap_shape.specs.{Grips.edge_at, Grips.HasGrip, Grips.IsEdge, Grips.Leads, declared.grip.Grip.Grip}
 use Rattle.snap_repair.proofs.Mending.{grip_firm, locked_firm, mends_by, mends_on, mends_to, no_rows}
 
 removed_none : (r : ℕ) (l : List ℕ) → times r l ≡ 0 → removed r l ≡ l
@@ -45,7 +42,7 @@ freed_mends d e r h = record {
 }
 
 -- work under a lock that is freed again
-pub tries_locked : (rows : ℕ) (a b c d e : Known) (r : ℕ) (o : Option Repaired) → Mends a b → b.view.holds ≡ a.view.holds → times r a.view.holds ≡ 0 → HasLocked b c r → Tries rows c d o → Becomes d e (unlocked d.view r) → Tries rows a e o
+pub tries_locked : (rows : ℕ) (a b c d e : Known) (r : ℕ) (o : Option Repaired) → Mends a b → b.view.holds ≡ a.view.holds → times r a.view.holds ≡ 0 → HasLocked b c r → TriesRepair rows c d o → Becomes d e (unlocked d.view r) → TriesRepair rows a e o
 tries_locked rows a b c d e r o m same free l t h =
     let k = locked_firm b c r l in let up = mends_on a b c m k.0.mends in let down = freed_mends d e r h in record {
       mends = mends_by (stops_full o) a d e (mends_to (stops_full o) a c d up t.mends) down;
@@ -74,11 +71,11 @@ child_there rows v r l Side.Left h nz = ((λ z. nz (h.none.0 z)), h.left)
 child_there rows v r l Side.Right h nz = ((λ z. nz (h.none.1 z)), h.right)
 
 -- the place of the copy of the inner grandchild
-pub inner_tilt : (v : View) (row lower : Grip) (d : Side) → Leans v row.row d → IsEdge v (edge_at row d lower) → HasChild v lower.row (other d) → IsTilt v row.row lower.row (other d)
+pub inner_tilt : (v : View) (row lower : Grip) (d : Side) → Leans v row.row d → IsEdge v (edge_at row d lower) → HasChildOn v lower.row (other d) → IsTilt v row.row lower.row (other d)
 inner_tilt v row lower d leans e c = record { higher = d; leans = leans; at = inr (e.leads, refl); child = c.0; some_child = c.1; leads = c.2 }
 
 -- that grandchild is the higher one by what was loaded
-pub higher_by : (rows : ℕ) (v : View) (r : ℕ) (l : Look) (d : Side) → HasLook rows v r l → height_on l d < height_on l (other d) → IsHigher v r (other d) × HasChild v r (other d)
+pub higher_by : (rows : ℕ) (v : View) (r : ℕ) (l : Look) (d : Side) → HasLook rows v r l → height_on l d < height_on l (other d) → IsHigher v r (other d) × HasChildOn v r (other d)
 higher_by rows v r l Side.Left h t = (record { high = l.right_height; low = l.left_height; is_high = h.right_height; is_low = h.left_height; less = t }, (l.right, (λ z. omega (arith, h.none.1 z, t)), h.right))
 higher_by rows v r l Side.Right h t = (record { high = l.left_height; low = l.right_height; is_high = h.left_height; is_low = h.right_height; less = t }, (l.left, (λ z. omega (arith, h.none.0 z, t)), h.left))
 
@@ -92,11 +89,11 @@ high_on l Side.Left t z = omega (arith, t, z)
 high_on l Side.Right t z = omega (arith, t, z)
 
 -- there is a child on that side
-pub child_by : (rows : ℕ) (v : View) (r : ℕ) (l : Look) (d : Side) → HasLook rows v r l → LeansTo l d → HasChild v r d
+pub child_by : (rows : ℕ) (v : View) (r : ℕ) (l : Look) (d : Side) → HasLook rows v r l → LeansTo l d → HasChildOn v r d
 child_by rows v r l d look t = let c = child_there rows v r l d look (high_on l d t) in (child_on l d, c.0, c.1)
 
 -- the place of the copy of the higher child
-pub child_tilt : (v : View) (r : ℕ) (d : Side) → Leans v r d → HasChild v r d → IsTilt v r r d
+pub child_tilt : (v : View) (r : ℕ) (d : Side) → Leans v r d → HasChildOn v r d → IsTilt v r r d
 child_tilt v r d leans c = record { higher = d; leans = leans; at = inl (refl, refl); child = c.0; some_child = c.1; leads = c.2 }
 
 -- the row leans still, once the child is a copy and locked
@@ -115,7 +112,7 @@ leans_owned rows a b c parent side child r d o l h k held same high nz low tilts
     no_other Side.Left = λ e. cc
     no_other Side.Right = λ e. cc
 
-pub lacks_tries : (rows n : ℕ) (a b : Known) (parent : ℕ) (d : Side) (at : Snapshot Known) → at.value ≡ b → LacksRows rows a b parent d n → Tries rows a b (Some (RowsOut n at))
+pub lacks_tries : (rows n : ℕ) (a b : Known) (parent : ℕ) (d : Side) (at : Snapshot Known) → at.value ≡ b → LacksRows rows a b parent d n → TriesRepair rows a b (Some (RowsOut n at))
 lacks_tries rows n a b parent d at is h = record { mends = h.mends; holds = h.holds; stops = subst (λ (k : Known). IsRowsOut rows a b k n) (sym is) (record { all = h.all; before = h.mends; parent = parent; side = d; wants = h.wants; after = ([], refl); full = h.full }) }
 
 -- the row leans still after a look

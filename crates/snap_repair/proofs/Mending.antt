@@ -4,15 +4,13 @@ use Rattle.snap_prelude.proofs.Common.{dite, times-append, ℕ_discrete}
 use Rattle.snap_locks.specs.Held.{HasLocked}
 use Rattle.snap_copy.proofs.Copying.{epoch_not_full}
 use Rattle.snap_repair.specs.Mending.{Firm, LinksWhatItDraws, Looks, Mends, MendsTo, NoWord, TellsFull, mended}
-use Rattle.snap_prelude.specs.{Among, Becomes, Birth, born, Epoch, epoch_noted, Field, In}
-use Rattle.snap_prelude.specs.{is_last, IsBelow, IsKnown, KeepsReached, Key, Known}
-use Rattle.snap_prelude.specs.{link_field, Next, read, Side, Stamp, times, View, WordNote}
+use Rattle.snap_prelude.specs.{Among, Becomes, Birth, born, Epoch, epoch_noted, Field, In, is_last, IsBelow, IsKnown}
+use Rattle.snap_prelude.specs.{KeepsReached, Key, Known, link_field, Next, read, Side, Stamp, times, View, WordNote}
 use Rattle.snap_search.specs.Prelude.{births_of, worked, Works}
 use Rattle.snap_search.proofs.Working.{grows_on, grows_read, grows_same, no_notes, notes_on, with_more}
 use Rattle.snap_shape.proofs.Touching.{loaded}
-use Rattle.snap_shape.specs.Grips.{HasGrip, IsEdge, IsOfNow, edge_at}
-use Rattle.snap_shape.specs.Shapes.{Keeps}
-use Rattle.snap_shape.specs.declared.grip.Grip.{Grip}
+use Rattle.snap_shape.specs.{Grips.edge_at, Grips.HasGrip, Grips.IsEdge, Grips.IsOfNow, Shapes.KeepsRest}
+use Rattle.snap_shape.specs.{declared.grip.Grip.Grip}
 use Rattle.snap_steps.specs.declared.view.WordNote.TheVariants.{Birth as BirthNote}
 
 pub no_rows : (v w : View) → w.drawn ≡ v.drawn → w.fresh.own ≡ v.fresh.own → LinksWhatItDraws v w
@@ -221,7 +219,7 @@ edge_looks a b upper lower d s e = record {
 }
 
 -- a change of the tree's shape is a part of repairs
-pub keeps_mends : (a b : Known) (p r l : ℕ) → a.view.doing ≡ Rattle.snap_rule.specs.declared.change.Doing.TheVariants.Nothing → Keeps a b p r l → Mends a b
+pub keeps_mends : (a b : Known) (p r l : ℕ) → a.view.doing ≡ Rattle.snap_rule.specs.declared.change.Doing.TheVariants.Nothing → KeepsRest a b p r l → Mends a b
 keeps_mends a b p r l whole k = record {
   is = k.is ∙ ap (λ (x : Known). mended a x.view) (sym k.is);
   whole = k.whole ∙ sym whole;
@@ -235,7 +233,7 @@ keeps_mends a b p r l whole k = record {
   refused = grows_same a.view.words.refused b.view.words.refused k.refused;
 }
 
-pub keeps_holds : (a b : Known) (p r l : ℕ) → Keeps a b p r l → b.view.holds ≡ a.view.holds
+pub keeps_holds : (a b : Known) (p r l : ℕ) → KeepsRest a b p r l → b.view.holds ≡ a.view.holds
 keeps_holds a b p r l k = ap (λ (x : Known). x.view.holds) k.is
 
 -- a lock, and its release

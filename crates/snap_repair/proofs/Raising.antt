@@ -1,17 +1,14 @@
 -- Heights and rotations, and what they leave.
 use Rattle.std.proofs.Common.{◌≡◌, ◌≢◌, ◌∙◌, ◌⊎◌, ◌+◌, inl, inr, ℕ, zero, suc, List, [], refl, sym, ap, subst, arith}
-use Rattle.snap_repair.specs.Answers.{Lowers}
-use Rattle.snap_repair.specs.Mending.{Looks, Mends, mended}
-use Rattle.snap_repair.specs.Raising.{Heightens, RaisesFor, TurnsNear}
+use Rattle.snap_repair.specs.{Answers.Lowers, Mending.Looks, Mending.mended, Mending.Mends, Raising.Heightens}
+use Rattle.snap_repair.specs.{Raising.RaisesFor, Raising.TurnsNear}
 use Rattle.snap_prelude.specs.{AimsAt, AimsByHeight, Among, Becomes, Birth, Field, Height}
 use Rattle.snap_prelude.specs.{heightened, IsKnown, IsListed, IsNoted, Key, Known, link_field}
 use Rattle.snap_prelude.specs.{listing, Mark, or_else, other, Side, Stamp, TurnsFor, View, word_in}
 use Rattle.snap_search.proofs.Working.{grows_same, no_notes}
 use Rattle.snap_shape.proofs.Touching.{One, Stays, stored}
-use Rattle.snap_shape.specs.Grips.{HasGrip, IsEdge, IsOfNow, edge_at, turn_at}
-use Rattle.snap_shape.specs.Shapes.{Rotates, later}
-use Rattle.snap_shape.specs.declared.grip.Grip.{Grip}
-use Rattle.snap_shape.specs.declared.grip.Turn.{Turn}
+use Rattle.snap_shape.specs.{Grips.edge_at, Grips.HasGrip, Grips.IsEdge, Grips.IsOfNow, Grips.turn_at, Shapes.later}
+use Rattle.snap_shape.specs.{Shapes.Rotates, declared.grip.Grip.Grip, declared.grip.Turn.Turn}
 use Rattle.snap_repair.proofs.Mending.{keeps_holds, keeps_mends, mends_on, no_rows}
 
 abbrev known_as : Known → View → Known
@@ -70,9 +67,6 @@ heightens a b c parent row h looks e =
       listed = λ n x k. subst (λ (z : Known). IsListed n x z.view.debt.list) (sym e) (listed_more parent.row (word_in b.view.words.knows parent.row Stamp) n x b.view.debt.list (subst (λ u. IsListed n x u.list) (sym looks.0.debt) k));
       to_do = ap (λ (k : Known). k.view.debt.to_do) e ∙ ap (λ u. or_else u.to_do row.key) looks.0.debt;
     }
-
-no_field : (q r : ℕ) (f : Field) → (f ≡ Height → ⊥) → (q ≡ r) × (f ≡ Height) → ⊥
-no_field q r f ne z = ne z.1
 
 pub link_no_height : (d : Side) → link_field d ≢ Height
 link_no_height Side.Left = λ e. cc

@@ -2,12 +2,10 @@
 use Rattle.std.specs.Prelude.{◌≡◌, ◌⊎◌, ◌+◌, ◌≤◌, ℕ, List, [], ◌∷◌, ◌++◌, Option, None, Some, true, false, Bool}
 use Rattle.snap_prelude.specs.{Among, Becomes, count_of, Fact, IsKnown, Known, last_count, Leans}
 use Rattle.snap_prelude.specs.{no_debt, Nothing, other, Side, Stamp, unlocked, View, Writing}
-use Rattle.snap_repair.specs.Lowering.{IsHigher, WantsCopy}
-use Rattle.snap_repair.specs.Mending.{Looks, Mends, MendsTo}
-use Rattle.snap_repair.specs.declared.answer.Repaired.{Repaired}
+use Rattle.snap_repair.specs.{Lowering.IsHigher, Lowering.WantsCopy, Mending.Looks, Mending.Mends, Mending.MendsTo}
+use Rattle.snap_repair.specs.{declared.answer.Repaired.Repaired}
 use Rattle.snap_repair.specs.declared.answer.Repaired.TheVariants.{Done, RowsOut, StampOut}
-use Rattle.snap_shape.specs.declared.grip.Turn.{Turn}
-use Rattle.snap_shape.specs.Grips.{Leads}
+use Rattle.snap_shape.specs.{declared.grip.Turn.Turn, Grips.Leads}
 
 -- what a pass needs for repairs
 pub record IsMending (v : View) : Type 0 where
@@ -85,10 +83,10 @@ Turns old new t true = Lowers old new t
 Turns old new t false = FindsWorn old new t.row.row
 
 -- what an answer tells
-abbrev pub Tells : ℕ → Known → Known → Repaired → Type 0
-Tells rows old new Done = new.view.debt ≡ no_debt
-Tells rows old new (RowsOut n at) = IsRowsOut rows old new at.value n
-Tells rows old new (StampOut row at) = IsWornOut old new at.value row
+abbrev pub TellsRepair : ℕ → Known → Known → Repaired → Type 0
+TellsRepair rows old new Done = new.view.debt ≡ no_debt
+TellsRepair rows old new (RowsOut n at) = IsRowsOut rows old new at.value n
+TellsRepair rows old new (StampOut row at) = IsWornOut old new at.value row
 
 -- whether it tells of a full table
 abbrev pub is_full : Repaired → Bool
@@ -99,7 +97,7 @@ is_full (StampOut row at) = false
 -- what a try of a repair tells, which stops the repair or doesn't
 abbrev pub Stops : ℕ → Known → Known → Option Repaired → Type 0
 Stops rows old new None = Unit {0}
-Stops rows old new (Some why) = Tells rows old new why
+Stops rows old new (Some why) = TellsRepair rows old new why
 
 abbrev pub stops_full : Option Repaired → Bool
 stops_full None = false
@@ -112,7 +110,7 @@ pub record EndsRepair (old new : Known) : Type 0 where
   pub debt : new.view.debt ≡ no_debt
 
 -- a try of a repair
-pub record Tries (rows : ℕ) (old new : Known) (why : Option Repaired) : Type 0 where
+pub record TriesRepair (rows : ℕ) (old new : Known) (why : Option Repaired) : Type 0 where
   pub mends : MendsTo (stops_full why) old new
   pub holds : new.view.holds ≡ old.view.holds
   pub stops : Stops rows old new why
@@ -122,4 +120,4 @@ pub record Tries (rows : ℕ) (old new : Known) (why : Option Repaired) : Type 0
 pub record Repairs (rows : ℕ) (old new : Known) (answer : Repaired) : Type 0 where
   pub mends : MendsTo (is_full answer) old new
   pub holds : new.view.holds ≡ old.view.holds
-  pub tells : Tells rows old new answer
+  pub tells : TellsRepair rows old new answer

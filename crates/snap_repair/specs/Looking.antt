@@ -1,8 +1,7 @@
 -- What a pass finds out of a held row before it repairs it.
 use Rattle.std.specs.Prelude.{◌≢◌, ◌≡◌, ◌⊎◌, ◌≤◌, ◌+◌, ℕ, max}
 use Rattle.snap_repair.specs.declared.look.Look.{Look}
-use Rattle.snap_prelude.specs.{HasHeight, Height, IsBalanced, IsKnown, IsOlder}
-use Rattle.snap_prelude.specs.{link_field, one_more, Side, Value, View}
+use Rattle.snap_prelude.specs.{HasHeight, Height, IsBalanced, IsKnown, IsOlder, link_field, one_more, Side, Value, View}
 use Rattle.snap_stamp.specs.declared.layout.Field.TheVariants.{Left, Right}
 
 -- the link leads to another row, or to none
@@ -49,8 +48,8 @@ height_over l = one_more (max l.left_height l.right_height)
 abbrev pub IsEven : Look → Type 0
 IsEven l = (l.left_height ≤ l.right_height + 1) × (l.right_height ≤ l.left_height + 1)
 
-abbrev pub ShowsSettled : Look → Type 0
-ShowsSettled l = IsBalanced l.height l.left_height l.right_height × (Routes l → ⊥)
+abbrev pub LooksSettled : Look → Type 0
+LooksSettled l = IsBalanced l.height l.left_height l.right_height × (Routes l → ⊥)
 
 -- the link leads to no row, or to one of an earlier epoch
 abbrev pub EndsBelow : View → ℕ → Side → Type 0

@@ -1,12 +1,9 @@
 -- A stored height.
 use Rattle.std.specs.Prelude.{◌≡◌, ◌≢◌, ◌⊎◌, ℕ, Some}
-use Rattle.snap_repair.specs.Mending.{Mends}
-use Rattle.snap_repair.specs.Looking.{height_over}
-use Rattle.snap_repair.specs.declared.look.Look.{Look}
+use Rattle.snap_repair.specs.{Mending.Mends, Looking.height_over, declared.look.Look.Look}
 use Rattle.snap_prelude.specs.{AimsAt, Field, HasHeight, Height, IsKnown}
 use Rattle.snap_prelude.specs.{IsListed, IsNoted, Key, Known, or_else, Side, View}
-use Rattle.snap_shape.specs.Grips.{HasGrip}
-use Rattle.snap_shape.specs.declared.grip.Grip.{Grip}
+use Rattle.snap_shape.specs.{Grips.HasGrip, declared.grip.Grip.Grip}
 
 -- the row has its right height. What was known of other words still is, and so are the listed rows
 pub record Heightens (old new : Known) (row : Grip) : Type 0 where

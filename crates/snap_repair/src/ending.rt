@@ -1,7 +1,6 @@
 //! The end of a repair below row 0: at a settled row beside which the pass owes nothing.
-ghost use Rattle.std.specs.Prelude.{◌≡◌, ◌≢◌, ◌≤◌, IsTrue};
-ghost use Rattle.snap_repair.specs.Answers.{EndsRepair, IsMending};
-ghost use Rattle.snap_repair.specs.Looking.{ShowsSettled};
+ghost use Rattle.std.specs.Prelude.{◌≢◌, ◌≤◌, IsTrue};
+ghost use Rattle.snap_repair.specs.{Answers.EndsRepair, Answers.IsMending, Looking.LooksSettled};
 ghost use Rattle.snap_shape.specs.Grips.{HasGrip};
 ghost use Rattle.snap_prelude.specs.{IsOf, IsSeenSettled, ListsOnly};
 
@@ -11,7 +10,7 @@ use snap_steps::{Pass, Rows, settle_last};
 
 /// Whether the repair ends at this row: it is settled, and surely no other is owed.
 pub fn may_end(pass: &Pass, row: &Grip, look: &Look) -> bool
-    ensures settled { IsTrue result → ShowsSettled look.now }
+    ensures settled { IsTrue result → LooksSettled look.now }
     ensures only { IsTrue result → ListsOnly row.now.row pass.now.view.debt.list }
 {
     if !is_settled(look) {

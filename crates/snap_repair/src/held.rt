@@ -1,9 +1,7 @@
 //! What a pass finds out of rows under their locks.
-ghost use Rattle.std.specs.Prelude.{◌≡◌, ◌≢◌, ◌⊎◌, ◌≤◌, ◌<◌, [], ◌∷◌, Some, false, MatchOption, MatchBool, IsTrue};
-ghost use Rattle.snap_repair.specs.Answers.{FindsWorn, IsMending};
-ghost use Rattle.snap_repair.specs.Looking.{EndsBelow, HasLook, LeadsPast};
-ghost use Rattle.snap_repair.specs.Mending.{Looks, Mends};
-ghost use Rattle.snap_repair.specs.Rising.{MayEndOn};
+ghost use Rattle.std.specs.Prelude.{◌≡◌, ◌≢◌, ◌≤◌, ◌<◌, [], ◌∷◌, Some, false, MatchOption, MatchBool, IsTrue};
+ghost use Rattle.snap_repair.specs.{Answers.FindsWorn, Answers.IsMending, Looking.EndsBelow, Looking.HasLook};
+ghost use Rattle.snap_repair.specs.{Looking.LeadsPast, Mending.Looks, Mending.Mends, Rising.MayEndOn};
 ghost use Rattle.snap_search.specs.Prelude.{IsReached};
 ghost use Rattle.snap_shape.specs.Grips.{HasGrip, Leads};
 ghost use Rattle.snap_prelude.specs.{Among, count_of, HasHeight, IsOf, last_count, MayAimAt, Right};
@@ -54,17 +52,17 @@ pub fn leads_to(rows: &Rows, pass: &mut Pass, parent: &Grip, side: Side, row: Ro
 }
 
 /// Whether the to-do key may come to be the row's: it is, or the row is still the last of this epoch on its way.
-pub fn may_aim(rows: &Rows, pass: &mut Pass, key: Key, spot: &Ending, row: &Grip) -> bool
+pub fn may_aim(rows: &Rows, pass: &mut Pass, key: Key, end: &Ending, row: &Grip) -> bool
     requires table { IsOf pass.old rows.now }
     requires mending { IsMending pass.old.view }
     requires to_do { pass.old.view.debt.to_do ≡ Some key }
-    requires ends { MayEndOn rows.now.rows pass.old.view key spot.now }
-    requires row { (row.now.row ≡ spot.now.row) × (row.now.row ≢ 0) }
+    requires ends { MayEndOn rows.now.rows pass.old.view key end.now }
+    requires row { (row.now.row ≡ end.now.row) × (row.now.row ≢ 0) }
     requires grip { HasGrip pass.old.view row.now }
     ensures looks { Looks pass.old pass.new }
     ensures aims { IsTrue result → MayAimAt pass.new.view row.now.row }
 {
-    let (side, stamp, here) = (spot.side, spot.stamp, spot.here);
+    let (side, stamp, here) = (end.side, end.stamp, end.here);
     let (row_key, found) = (row.key, row.stamp);
     if row_key == key {
         return true;
@@ -94,28 +92,28 @@ fn ends_below(rows: &Rows, pass: &mut Pass, row: &Grip, side: Side) -> bool
 }
 
 /// At row 0 nothing is left to do, where the way of the to-do key still ends there.
-pub fn end_at_top<R: Wait>(rows: &Rows, rt: &R, pass: &mut Pass, key: Key, spot: &Ending)
+pub fn end_at_top<R: Wait>(rows: &Rows, rt: &R, pass: &mut Pass, key: Key, end: &Ending)
     requires table { IsOf pass.old rows.now }
     requires mending { IsMending pass.old.view }
     requires free { pass.old.view.holds ≡ [] }
     requires to_do { pass.old.view.debt.to_do ≡ Some key }
-    requires ends { MayEndOn rows.now.rows pass.old.view key spot.now }
-    requires row { spot.now.row ≡ 0 }
+    requires ends { MayEndOn rows.now.rows pass.old.view key end.now }
+    requires row { end.now.row ≡ 0 }
     ensures { Mends pass.old pass.new × (pass.new.view.holds ≡ pass.old.view.holds) }
 {
-    let top = spot.row;
+    let top = end.row;
     lock(rows, rt, pass, top);
-    at_top(rows, pass, key, spot);
+    at_top(rows, pass, key, end);
     unlock(rows, pass, top);
 }
 
-fn at_top(rows: &Rows, pass: &mut Pass, key: Key, spot: &Ending)
+fn at_top(rows: &Rows, pass: &mut Pass, key: Key, end: &Ending)
     requires table { IsOf pass.old rows.now }
     requires mending { IsMending pass.old.view }
-    requires held { pass.old.view.holds ≡ spot.now.row ∷ [] }
+    requires held { pass.old.view.holds ≡ end.now.row ∷ [] }
     requires to_do { pass.old.view.debt.to_do ≡ Some key }
-    requires ends { MayEndOn rows.now.rows pass.old.view key spot.now }
-    requires row { spot.now.row ≡ 0 }
+    requires ends { MayEndOn rows.now.rows pass.old.view key end.now }
+    requires row { end.now.row ≡ 0 }
     ensures { Mends pass.old pass.new × (pass.new.view.holds ≡ pass.old.view.holds) }
 {
     let Ending {
@@ -125,7 +123,7 @@ fn at_top(rows: &Rows, pass: &mut Pass, key: Key, spot: &Ending)
         here,
         above: _,
         above_side: _,
-    } = *spot;
+    } = *end;
     let Some(top) = grip_of(rows, pass, row) else {
         return;
     };

@@ -1,6 +1,6 @@
 //! What the words of a held row say of its balance.
-ghost use Rattle.std.specs.Prelude.{◌≡◌, ◌≢◌, ◌↔◌, ◌⊎◌, ℕ, IsTrue, MatchOption};
-ghost use Rattle.snap_repair.specs.Looking.{IsEven, LeansTo, Routes, ShowsSettled, height_on, height_over, only_of};
+ghost use Rattle.std.specs.Prelude.{◌≡◌, ◌↔◌, IsTrue, MatchOption};
+ghost use Rattle.snap_repair.specs.Looking.{IsEven, LeansTo, Routes, LooksSettled, height_on, height_over, only_of};
 
 use snap_stamp::{RowNo, Side};
 
@@ -67,7 +67,7 @@ pub fn height_due(look: &Look) -> u64
 
 /// Whether the row is settled.
 pub fn is_settled(look: &Look) -> bool
-    ensures { IsTrue result ↔ ShowsSettled look.now }
+    ensures { IsTrue result ↔ LooksSettled look.now }
 {
     let height = look.height;
     if is_routing(look) {

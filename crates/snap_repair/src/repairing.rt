@@ -2,9 +2,8 @@
 //!
 //! The parent is locked first, and the row only once the parent is known to lead to it: so who waits for a lock holds
 //! locks above it alone.
-ghost use Rattle.std.specs.Prelude.{◌≡◌, ◌≢◌, ◌≤◌, [], ◌∷◌, Some, None};
-ghost use Rattle.snap_repair.specs.Answers.{IsMending, Repairs, Tries};
-ghost use Rattle.snap_repair.specs.Rising.{MayEndOn};
+ghost use Rattle.std.specs.Prelude.{◌≡◌, ◌≢◌, [], ◌∷◌, Some, None};
+ghost use Rattle.snap_repair.specs.{Answers.IsMending, Answers.Repairs, Answers.TriesRepair, Rising.MayEndOn};
 ghost use Rattle.snap_search.specs.Prelude.{IsWay};
 ghost use Rattle.snap_shape.specs.Grips.{HasGrip, Leads};
 ghost use Rattle.snap_prelude.specs.{IsOf};
@@ -56,16 +55,16 @@ fn try_repair<R: Wait>(
     requires free { pass.old.view.holds ≡ [] }
     requires to_do { pass.old.view.debt.to_do ≡ Some key }
     requires way { IsWay rows.now.rows pass.old.view way.old }
-    ensures tries { Tries rows.now.rows pass.old pass.new result }
+    ensures tries { TriesRepair rows.now.rows pass.old pass.new result }
     ensures way { IsWay rows.now.rows pass.new.view way.new }
 {
-    let spot = next_row(rows, rt, pass, key, way);
-    let row = spot.row;
+    let end = next_row(rows, rt, pass, key, way);
+    let row = end.row;
     if row.is_none() {
-        end_at_top(rows, rt, pass, key, &spot);
+        end_at_top(rows, rt, pass, key, &end);
         return None;
     }
-    let why = take_rows(rows, rt, pass, key, &spot);
+    let why = take_rows(rows, rt, pass, key, &end);
     let still = pass.to_do() == Some(key);
     check_way(way, still);
     why
@@ -77,19 +76,19 @@ fn take_rows<R: Wait>(
     rt: &R,
     pass: &mut Pass,
     key: Key,
-    spot: &Ending,
+    end: &Ending,
 ) -> Option<Repaired>
     requires table { IsOf pass.old rows.now }
     requires mending { IsMending pass.old.view }
     requires free { pass.old.view.holds ≡ [] }
     requires to_do { pass.old.view.debt.to_do ≡ Some key }
-    requires ends { MayEndOn rows.now.rows pass.old.view key spot.now }
-    requires row { spot.now.row ≢ 0 }
-    ensures { Tries rows.now.rows pass.old pass.new result }
+    requires ends { MayEndOn rows.now.rows pass.old.view key end.now }
+    requires row { end.now.row ≢ 0 }
+    ensures { TriesRepair rows.now.rows pass.old pass.new result }
 {
-    let above = spot.above;
+    let above = end.above;
     lock(rows, rt, pass, above);
-    let why = at_parent(rows, rt, pass, key, spot);
+    let why = at_parent(rows, rt, pass, key, end);
     unlock(rows, pass, above);
     why
 }
@@ -99,17 +98,17 @@ fn at_parent<R: Wait>(
     rt: &R,
     pass: &mut Pass,
     key: Key,
-    spot: &Ending,
+    end: &Ending,
 ) -> Option<Repaired>
     requires table { IsOf pass.old rows.now }
     requires mending { IsMending pass.old.view }
-    requires held { pass.old.view.holds ≡ spot.now.above ∷ [] }
+    requires held { pass.old.view.holds ≡ end.now.above ∷ [] }
     requires to_do { pass.old.view.debt.to_do ≡ Some key }
-    requires ends { MayEndOn rows.now.rows pass.old.view key spot.now }
-    requires row { spot.now.row ≢ 0 }
-    ensures { Tries rows.now.rows pass.old pass.new result }
+    requires ends { MayEndOn rows.now.rows pass.old.view key end.now }
+    requires row { end.now.row ≢ 0 }
+    ensures { TriesRepair rows.now.rows pass.old pass.new result }
 {
-    let (above, side, row) = (spot.above, spot.above_side, spot.row);
+    let (above, side, row) = (end.above, end.above_side, end.row);
     if row == above {
         return None;
     }
@@ -120,7 +119,7 @@ fn at_parent<R: Wait>(
         return None;
     }
     lock(rows, rt, pass, row);
-    let why = at_row(rows, rt, pass, key, spot, &parent);
+    let why = at_row(rows, rt, pass, key, end, &parent);
     unlock(rows, pass, row);
     why
 }
@@ -130,25 +129,25 @@ fn at_row<R: Wait>(
     rt: &R,
     pass: &mut Pass,
     key: Key,
-    spot: &Ending,
+    end: &Ending,
     parent: &Grip,
 ) -> Option<Repaired>
     requires table { IsOf pass.old rows.now }
     requires mending { IsMending pass.old.view }
-    requires held { pass.old.view.holds ≡ spot.now.row ∷ spot.now.above ∷ [] }
+    requires held { pass.old.view.holds ≡ end.now.row ∷ end.now.above ∷ [] }
     requires to_do { pass.old.view.debt.to_do ≡ Some key }
-    requires ends { MayEndOn rows.now.rows pass.old.view key spot.now }
-    requires row { (spot.now.row ≢ 0) × (spot.now.row ≢ spot.now.above) }
-    requires parent { (parent.now.row ≡ spot.now.above) × HasGrip pass.old.view parent.now
-        × Leads pass.old.view spot.now.above spot.now.above_side spot.now.row }
-    ensures { Tries rows.now.rows pass.old pass.new result }
+    requires ends { MayEndOn rows.now.rows pass.old.view key end.now }
+    requires row { (end.now.row ≢ 0) × (end.now.row ≢ end.now.above) }
+    requires parent { (parent.now.row ≡ end.now.above) × HasGrip pass.old.view parent.now
+        × Leads pass.old.view end.now.above end.now.above_side end.now.row }
+    ensures { TriesRepair rows.now.rows pass.old pass.new result }
 {
-    let (number, side) = (spot.row, spot.above_side);
+    let (number, side) = (end.row, end.above_side);
     let Some(row) = grip_of(rows, pass, number) else {
         return None;
     };
     let row_key = row.key;
-    if !may_aim(rows, pass, key, spot, &row) {
+    if !may_aim(rows, pass, key, end, &row) {
         return None;
     }
     aim(rows, pass, number, row_key);

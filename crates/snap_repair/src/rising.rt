@@ -1,8 +1,6 @@
 //! Where a repair goes next: up the way that the search before it kept, or else by a new search.
 ghost use Rattle.std.specs.Prelude.{◌≡◌, Some, MatchOption};
-ghost use Rattle.snap_repair.specs.Answers.{IsMending};
-ghost use Rattle.snap_repair.specs.Mending.{Looks};
-ghost use Rattle.snap_repair.specs.Rising.{GoesTo, MayEndOn, Stays};
+ghost use Rattle.snap_repair.specs.{Answers.IsMending, Mending.Looks, Rising.GoesTo, Rising.KeepsWay, Rising.MayEndOn};
 ghost use Rattle.snap_search.specs.Prelude.{IsWay};
 ghost use Rattle.snap_prelude.specs.{IsOf};
 
@@ -21,8 +19,8 @@ pub fn next_row<R: Wait>(rows: &Rows, rt: &R, pass: &mut Pass, key: Key, way: &m
     ensures goes { GoesTo rows.now.rows pass.old pass.new key result }
     ensures way { IsWay rows.now.rows pass.new.view way.new }
 {
-    if let Some(spot) = near_row(rows, pass, key, way) {
-        return spot;
+    if let Some(end) = near_row(rows, pass, key, way) {
+        return end;
     }
     find_to_repair(rows, rt, pass, key, way)
 }
@@ -30,7 +28,7 @@ pub fn next_row<R: Wait>(rows: &Rows, rt: &R, pass: &mut Pass, key: Key, way: &m
 /// Lets go of the way where the key is still to do behind a turn: its rows may stand elsewhere now, so that no turn would
 /// come to an end by them.
 pub fn check_way(way: &mut Way, still: bool)
-    ensures { Stays way.old way.new }
+    ensures { KeepsWay way.old way.new }
 {
     if !still {
         return;
@@ -38,8 +36,8 @@ pub fn check_way(way: &mut Way, still: bool)
     way.clear();
 }
 
-// The row with the key, where it is the lowest that is kept or one of the two below that. Behind a turn that passed the
-// key up it is the first, behind a write of a new key and behind two rotations the second.
+// The row with the key, as the end of a way, where it is the lowest that is kept or one of the two below that: it is the
+// lowest behind a turn that passed the key up, the one below it behind a write of a new key and behind two rotations.
 fn near_row(rows: &Rows, pass: &mut Pass, key: Key, way: &mut Way) -> Option<Ending>
     requires table { IsOf pass.old rows.now }
     requires way { IsWay rows.now.rows pass.old.view way.old }
@@ -47,14 +45,15 @@ fn near_row(rows: &Rows, pass: &mut Pass, key: Key, way: &mut Way) -> Option<End
     ensures way { IsWay rows.now.rows pass.new.view way.new }
     ensures row { MatchOption result (Unit {0}) (λ e. MayEndOn rows.now.rows pass.new.view key e) }
 {
-    if !comes_to(rows, pass, key, way) {
+    if !extend_to(rows, pass, key, way) {
         return None;
     }
     way.go_up()
 }
 
-// Whether the lowest row that is then kept has the key.
-fn comes_to(rows: &Rows, pass: &mut Pass, key: Key, way: &mut Way) -> bool
+// Keeps the child of the lowest row and the child of that, until a row has the key. Answers whether the lowest one then
+// has it.
+fn extend_to(rows: &Rows, pass: &mut Pass, key: Key, way: &mut Way) -> bool
     requires table { IsOf pass.old rows.now }
     requires way { IsWay rows.now.rows pass.old.view way.old }
     ensures looks { Looks pass.old pass.new }
@@ -63,20 +62,21 @@ fn comes_to(rows: &Rows, pass: &mut Pass, key: Key, way: &mut Way) -> bool
     let Some(lowest) = way.lowest() else {
         return false;
     };
-    let found = load_key(rows, pass, lowest.row);
-    if found == key {
+    let lowest_key = load_key(rows, pass, lowest.row);
+    if lowest_key == key {
         return true;
     }
-    let near = step_down(rows, pass, key, way);
-    if near {
+    let child_has_key = keep_child(rows, pass, key, way);
+    if child_has_key {
         return true;
     }
-    let below = step_down(rows, pass, key, way);
-    below
+    let next_has_key = keep_child(rows, pass, key, way);
+    next_has_key
 }
 
-// Keeps the child of the lowest row, by a link that is not validated, and answers whether it has the key.
-fn step_down(rows: &Rows, pass: &mut Pass, key: Key, way: &mut Way) -> bool
+// Keeps the child of the lowest row, on the side on which the way went on there: by its link, which nothing validates.
+// Answers whether the child has the key.
+fn keep_child(rows: &Rows, pass: &mut Pass, key: Key, way: &mut Way) -> bool
     requires table { IsOf pass.old rows.now }
     requires way { IsWay rows.now.rows pass.old.view way.old }
     ensures looks { Looks pass.old pass.new }
@@ -90,13 +90,13 @@ fn step_down(rows: &Rows, pass: &mut Pass, key: Key, way: &mut Way) -> bool
     if child.is_none() {
         return false;
     }
-    let found = load_key(rows, pass, child);
-    let side = side_from(found, key);
+    let child_key = load_key(rows, pass, child);
+    let side = side_from(child_key, key);
     way.keep(Step { row: child, side });
-    found == key
+    child_key == key
 }
 
-// Where the way of a key goes on from a row with a key.
+// The side on which the way of a key goes on from a row. It ends at the row that has the key: there either side serves.
 fn side_from(row_key: Key, key: Key) -> Side {
     if row_key == key {
         Side::Right

@@ -1,10 +1,10 @@
 //! The table of repairs at a held row, and heights.
-ghost use Rattle.std.specs.Prelude.{◌≡◌, ◌≢◌, ◌≤◌, [], ◌∷◌, Some};
-ghost use Rattle.snap_repair.specs.Answers.{IsMending, Tries};
+ghost use Rattle.std.specs.Prelude.{◌≡◌, [], ◌∷◌, Some};
+ghost use Rattle.snap_repair.specs.Answers.{IsMending, TriesRepair};
 ghost use Rattle.snap_repair.specs.Looking.{HasLook, IsEven, Routes};
 ghost use Rattle.snap_repair.specs.Raising.{Heightens, Lifts, RaisesFor, SetsRight};
 ghost use Rattle.snap_shape.specs.Grips.{IsEdge, IsWithin};
-ghost use Rattle.snap_prelude.specs.{IsOf, key_at};
+ghost use Rattle.snap_prelude.specs.{IsOf, to_do_at};
 
 use crate::answer::Repaired;
 use crate::ending::{end_repair, may_end};
@@ -24,7 +24,7 @@ pub fn settle<R: Wait>(rows: &Rows, rt: &R, pass: &mut Pass, edge: &Edge) -> Opt
     requires edge { IsEdge pass.old.view edge.now }
     requires two { pass.old.view.holds ≡ edge.now.child.row ∷ edge.now.parent.row ∷ [] }
     requires to_do { pass.old.view.debt.to_do ≡ Some edge.now.child.key }
-    ensures { Tries rows.now.rows pass.old pass.new result }
+    ensures { TriesRepair rows.now.rows pass.old pass.new result }
 {
     let row = edge.child;
     let look = look_at(rows, pass, &row);
@@ -54,7 +54,7 @@ pub fn lift(rows: &Rows, pass: &mut Pass, edge: &Edge, look: &Look)
     requires look { HasLook rows.now.rows pass.old.view edge.now.child.row look.now }
     requires settles { IsEven look.now × (Routes look.now → ⊥) }
     ensures keeps { Lifts pass.old pass.new edge.now.parent edge.now.child }
-    ensures to_do { pass.new.view.debt.to_do ≡ key_at edge.now.parent.row edge.now.parent.key }
+    ensures to_do { pass.new.view.debt.to_do ≡ to_do_at edge.now.parent.row edge.now.parent.key }
 {
     let (side, upper, lower) = (edge.side, edge.parent.row, edge.child.row);
     let (upper_key, lower_key) = (edge.parent.key, edge.child.key);

@@ -2,11 +2,10 @@
 //!
 //! A row is locked only while the row above it is held, so locks are taken downwards alone.
 ghost use Rattle.std.specs.Prelude.{◌≡◌, ◌≢◌, ◌<◌, ◌≤◌, [], ◌∷◌, Some, IsTrue, MatchOption};
-ghost use Rattle.snap_repair.specs.Answers.{IsMending, IsWornOut, Lowers, Tries, Turns};
+ghost use Rattle.snap_repair.specs.{Answers.IsMending, Answers.IsWornOut, Answers.Lowers, Answers.TriesRepair};
+ghost use Rattle.snap_repair.specs.{Answers.Turns, Lowering.HasChildOn, Lowering.IsHigher, Mending.Looks};
+ghost use Rattle.snap_repair.specs.{Raising.Lifts, Raising.TurnsNear};
 ghost use Rattle.snap_prelude.specs.{Among, count_of, IsOf, last_count, Leans, other};
-ghost use Rattle.snap_repair.specs.Lowering.{HasChild, IsHigher};
-ghost use Rattle.snap_repair.specs.Mending.{Looks};
-ghost use Rattle.snap_repair.specs.Raising.{Lifts, TurnsNear};
 ghost use Rattle.snap_shape.specs.Grips.{AreWithin, IsEdge, IsTurning, IsWithin, Leads, edge_at};
 
 use crate::answer::Repaired;
@@ -35,9 +34,9 @@ pub fn tilt<R: Wait>(
     requires edge { IsEdge pass.old.view edge.now }
     requires two { pass.old.view.holds ≡ edge.now.child.row ∷ edge.now.parent.row ∷ [] }
     requires leans { Leans pass.old.view edge.now.child.row higher }
-    requires child { HasChild pass.old.view edge.now.child.row higher }
+    requires child { HasChildOn pass.old.view edge.now.child.row higher }
     requires to_do { pass.old.view.debt.to_do ≡ Some edge.now.child.key }
-    ensures { Tries rows.now.rows pass.old pass.new result }
+    ensures { TriesRepair rows.now.rows pass.old pass.new result }
 {
     let (upper, row) = (edge.parent.row, edge.child.row);
     let child = match own_lower(rows, rt, pass, row, higher) {
@@ -77,7 +76,7 @@ fn at_child<R: Wait>(
     requires leads { Leads pass.old.view edge.now.child.row higher child }
     requires leans { Leans pass.old.view edge.now.child.row higher }
     requires to_do { pass.old.view.debt.to_do ≡ Some edge.now.child.key }
-    ensures { Tries rows.now.rows pass.old pass.new result }
+    ensures { TriesRepair rows.now.rows pass.old pass.new result }
 {
     let (row, key) = (edge.child.row, edge.child.key);
     let Some(lower) = grip_of(rows, pass, child) else {
@@ -115,9 +114,9 @@ fn tilt_inner<R: Wait>(rows: &Rows, rt: &R, pass: &mut Pass, turn: &Turn) -> Opt
         ≡ turn.now.raised.row ∷ turn.now.row.row ∷ turn.now.parent.row ∷ [] }
     requires leans { Leans pass.old.view turn.now.row.row turn.now.side }
     requires inner { IsHigher pass.old.view turn.now.raised.row (other turn.now.side)
-        × HasChild pass.old.view turn.now.raised.row (other turn.now.side) }
+        × HasChildOn pass.old.view turn.now.raised.row (other turn.now.side) }
     requires to_do { pass.old.view.debt.to_do ≡ Some turn.now.row.key }
-    ensures { Tries rows.now.rows pass.old pass.new result }
+    ensures { TriesRepair rows.now.rows pass.old pass.new result }
 {
     let inward = turn.side.other();
     let (upper, row, lower) = (turn.parent.row, turn.row.row, turn.raised.row);
@@ -152,7 +151,7 @@ fn at_inner(rows: &Rows, pass: &mut Pass, turn: &Turn, inner: RowNo) -> Option<R
         × (inner ≢ turn.now.parent.row) × Among inner pass.old.view.trail.reached }
     requires leads { Leads pass.old.view turn.now.raised.row (other turn.now.side) inner }
     requires to_do { pass.old.view.debt.to_do ≡ Some turn.now.row.key }
-    ensures { Tries rows.now.rows pass.old pass.new result }
+    ensures { TriesRepair rows.now.rows pass.old pass.new result }
 {
     let (lower, lower_key) = (turn.raised.row, turn.raised.key);
     let Some(raised) = grip_of(rows, pass, inner) else {
@@ -180,7 +179,7 @@ fn turn_twice(rows: &Rows, pass: &mut Pass, turn: &Turn, raised: &Grip) -> Optio
     requires leans { Leans pass.old.view turn.now.row.row turn.now.side }
     requires higher { IsHigher pass.old.view turn.now.raised.row (other turn.now.side) }
     requires to_do { pass.old.view.debt.to_do ≡ Some turn.now.row.key }
-    ensures { Tries rows.now.rows pass.old pass.new result }
+    ensures { TriesRepair rows.now.rows pass.old pass.new result }
 {
     let (lower_key, raised_key) = (turn.raised.key, raised.key);
     if let Some(worn) = worn_row(rows, pass, turn) {

@@ -1,10 +1,8 @@
 -- The child to which a link of a held row leads.
 use Rattle.std.proofs.Common.{◌≡◌, ◌≢◌, ◌≤◌, ◌∙◌, ◌⊎◌, ◌==◌, ◌+◌, ℕ, List, [], ◌∷◌, Bool, true, false, cond, refl, sym, ap, subst, arith, nat_lt, eq-eqb, lt-ltb, inl, inr}
 use Rattle.snap_prelude.proofs.Common.{dite, times-append, ℕ_discrete}
-use Rattle.snap_shape.specs.Grips.{HasGrip, IsOfNow}
-use Rattle.snap_shape.specs.declared.grip.Grip.{Grip}
-use Rattle.snap_prelude.specs.{Among, Becomes, Field, Known, led_to}
-use Rattle.snap_prelude.specs.{link_field, read, Side, times, View}
+use Rattle.snap_shape.specs.{Grips.HasGrip, Grips.IsOfNow, declared.grip.Grip.Grip}
+use Rattle.snap_prelude.specs.{Among, Becomes, Field, Known, led_to, link_field, read, Side, times, View}
 
 one_of : (n : ℕ) → Among n (n ∷ [])
 one_of n = let one : times n (n ∷ []) ≡ 1 = ap (λ (b : Bool). cond b 1 0 + 0) (eq-eqb n n refl) in omega (arith, one)

@@ -1,13 +1,11 @@
 -- What an unlinking and a rotation leave of what their pass knows.
 use Rattle.std.proofs.Common.{◌≡◌, ◌≢◌, ◌∙◌, ◌⊎◌, ◌+◌, inl, inr, ℕ, zero, suc, List, [], ◌∷◌, ◌++◌, cond, refl, sym, ap, subst, arith, ⊎_elim, Bool, ◌||◌}
-use Rattle.snap_prelude.specs.{aimed_at, AimsAt, Among, Becomes, Birth, cleared, Fact}
-use Rattle.snap_prelude.specs.{fact, Field, HasStamps, is_last, IsBorn, IsKnown, IsListed}
-use Rattle.snap_prelude.specs.{IsPair, IsTurn, Key, key_at, Known, KnowsReason, lifted}
-use Rattle.snap_prelude.specs.{link_field, listing, lowered, Mark, other, read, shrunk}
-use Rattle.snap_prelude.specs.{Side, spliced, Stamp, turned, TurnsFor, unlinked, View}
-use Rattle.snap_shape.specs.Grips.{HasGrip, IsEdge, IsOfNow, edge_at, turn_at}
-use Rattle.snap_shape.specs.Shapes.{Rotates, Unlinks, shaped}
-use Rattle.snap_shape.specs.declared.grip.Grip.{Grip}
+use Rattle.snap_prelude.specs.{aimed_at, AimsAt, Among, Becomes, Birth, cleared, Fact, fact, Field, HasStamps, is_last}
+use Rattle.snap_prelude.specs.{IsBorn, IsKnown, IsListed, IsPair, IsTurn, Key, Known, KnowsReason, lifted, link_field}
+use Rattle.snap_prelude.specs.{link_turned, listing, lowered, Mark, other, read, row_spliced, shrunk, Side, Stamp}
+use Rattle.snap_prelude.specs.{to_do_at, TurnsFor, unlinked, View}
+use Rattle.snap_shape.specs.{Grips.edge_at, Grips.HasGrip, Grips.IsEdge, Grips.IsOfNow, Grips.turn_at, Shapes.Rotates}
+use Rattle.snap_shape.specs.{Shapes.shaped, Shapes.Unlinks, declared.grip.Grip.Grip}
 use Rattle.snap_shape.proofs.Touching.{None, One, Stays, grip_stays, link_no_birth, link_no_key, link_no_stamp, loaded, loaded_here, stays_on, stored, stored_here}
 
 abbrev known_as : Known → View → Known
@@ -68,18 +66,18 @@ edge_stays a b P upper lower d s up down e = record {
 shaped_by : (a c k : Known) → c ≡ k → k ≡ shaped a k.view → c ≡ shaped a c.view
 shaped_by a c k e s = e ∙ s ∙ ap (λ (x : Known). shaped a x.view) (sym e)
 
-aimed_to : (n key : ℕ) (l : List Mark) → (aimed_at n key l).to_do ≡ key_at n key
+aimed_to : (n key : ℕ) (l : List Mark) → (aimed_at n key l).to_do ≡ to_do_at n key
 aimed_to zero key l = refl
 aimed_to (suc n) key l = refl
 
 -- an unlinking
-pub unlinks : (a b c : Known) (parent row : Grip) (d : Side) (only : ℕ) → Becomes a b (unlinked a.view parent.row d row.row only parent.key (row.stamp + 1)) → Becomes b c (spliced b.view parent.row d only) → Unlinks a c (edge_at parent d row) only
+pub unlinks : (a b c : Known) (parent row : Grip) (d : Side) (only : ℕ) → Becomes a b (unlinked a.view parent.row d row.row only parent.key (row.stamp + 1)) → Becomes b c (row_spliced b.view parent.row d only) → Unlinks a c (edge_at parent d row) only
 unlinks a b c parent row d only e f =
     let s1 = stored a b (unlinked a.view parent.row d row.row only parent.key (row.stamp + 1)) row.row Stamp (row.stamp + 1) e refl refl refl refl in
-    let s2 = stored b c (spliced b.view parent.row d only) parent.row (link_field d) only f refl refl refl refl in
+    let s2 = stored b c (row_spliced b.view parent.row d only) parent.row (link_field d) only f refl refl refl refl in
     let s = stays_on a b c (One row.row Stamp) (One parent.row (link_field d)) s1 s2 in record {
       keeps = record {
-        is = shaped_by a c (known_as a (spliced (unlinked a.view parent.row d row.row only parent.key (row.stamp + 1)) parent.row d only)) (f ∙ ap (λ (k : Known). known_as k (spliced k.view parent.row d only)) e) refl;
+        is = shaped_by a c (known_as a (row_spliced (unlinked a.view parent.row d row.row only parent.key (row.stamp + 1)) parent.row d only)) (f ∙ ap (λ (k : Known). known_as k (row_spliced k.view parent.row d only)) e) refl;
         reached = s.reached;
         whole = ap (λ (k : Known). k.view.doing) f;
         worn = λ h. ap (λ (k : Known). k.view.noted.worn) f ∙ ap (λ (k : Known). k.view.noted.worn) e ∙ h;
@@ -88,7 +86,7 @@ unlinks a b c parent row d only e f =
         grips = λ g ne h. grip_stays a c (λ q i. One row.row Stamp q i ⊎ One parent.row (link_field d) q i) g s
             (λ z. ⊎_elim (λ t. let q : Key ≡ Stamp = t.1 in cc) (λ t. link_no_key d (sym t.1)) z) (λ z. ⊎_elim (λ t. ne t.0) (λ t. link_no_stamp d (sym t.1)) z) (λ z. ⊎_elim (λ t. let q : Birth ≡ Stamp = t.1 in cc) (λ t. link_no_birth d (sym t.1)) z) h;
       };
-      leads = stored_here b c (spliced b.view parent.row d only) parent.row (link_field d) only f refl;
+      leads = stored_here b c (row_spliced b.view parent.row d only) parent.row (link_field d) only f refl;
       to_do = ap (λ (k : Known). k.view.debt.to_do) f ∙ ap (λ (k : Known). k.view.debt.to_do) e ∙ aimed_to parent.row parent.key _;
     }
 
@@ -106,7 +104,7 @@ pub record Turned_by (a b c d e f g : Known) (parent : Grip) (p : Side) (row : G
   pub mark : Becomes b c (shrunk b.view parent.row p row.row side raised.row (row.stamp + 2) key)
   pub lower : Becomes c d (lowered c.view parent.row p row.row side raised.row middle)
   pub lift : Becomes d e (lifted d.view parent.row p row.row side raised.row)
-  pub raise : Becomes e f (turned e.view parent.row p row.row raised.row row.key)
+  pub raise : Becomes e f (link_turned e.view parent.row p row.row raised.row row.key)
   pub clear : Becomes f g (cleared f.view row.row (row.stamp + 2 + 2))
 
 module _ (a b c d e f g : Known) (parent : Grip) (p : Side) (row : Grip) (side : Side) (raised : Grip) (middle key : ℕ) (t : Turned_by a b c d e f g parent p row side raised middle key) where
@@ -132,7 +130,7 @@ module _ (a b c d e f g : Known) (parent : Grip) (p : Side) (row : Grip) (side :
   d_to_e = stored d e (lifted d.view parent.row p row.row side raised.row) raised.row (link_field (other side)) row.row t.lift refl refl refl refl
 
   e_to_f : Stays e f (One parent.row (link_field p))
-  e_to_f = stored e f (turned e.view parent.row p row.row raised.row row.key) parent.row (link_field p) raised.row t.raise refl refl refl refl
+  e_to_f = stored e f (link_turned e.view parent.row p row.row raised.row row.key) parent.row (link_field p) raised.row t.raise refl refl refl refl
 
   f_to_g : Stays f g (One row.row Stamp)
   f_to_g = stored f g (cleared f.view row.row (row.stamp + 2 + 2)) row.row Stamp (row.stamp + 2 + 2) t.clear refl refl refl refl
@@ -190,9 +188,9 @@ module _ (a b c d e f g : Known) (parent : Grip) (p : Side) (row : Grip) (side :
       let is2 = t.mark ∙ ap (λ (k : Known). known_as k (shrunk k.view parent.row p row.row side raised.row (row.stamp + 2) key)) is1 in
       let is3 = t.lower ∙ ap (λ (k : Known). known_as k (lowered k.view parent.row p row.row side raised.row middle)) is2 in
       let is4 = t.lift ∙ ap (λ (k : Known). known_as k (lifted k.view parent.row p row.row side raised.row)) is3 in
-      let is5 = t.raise ∙ ap (λ (k : Known). known_as k (turned k.view parent.row p row.row raised.row row.key)) is4 in
+      let is5 = t.raise ∙ ap (λ (k : Known). known_as k (link_turned k.view parent.row p row.row raised.row row.key)) is4 in
       let is6 = t.clear ∙ ap (λ (k : Known). known_as k (cleared k.view row.row (row.stamp + 2 + 2))) is5 in
-      let v6 : View = cleared (turned (lifted (lowered (shrunk (read a.view raised.row (link_field (other side)) middle) parent.row p row.row side raised.row (row.stamp + 2) key) parent.row p row.row side raised.row middle) parent.row p row.row side raised.row) parent.row p row.row raised.row row.key) row.row (row.stamp + 2 + 2) in
+      let v6 : View = cleared (link_turned (lifted (lowered (shrunk (read a.view raised.row (link_field (other side)) middle) parent.row p row.row side raised.row (row.stamp + 2) key) parent.row p row.row side raised.row middle) parent.row p row.row side raised.row) parent.row p row.row raised.row row.key) row.row (row.stamp + 2 + 2) in
       let grip : (h : Grip) → h.row ≢ row.row → HasGrip a.view h → HasGrip g.view h = λ h ne x. grip_stays a g P h to_g (no_key h.row) (no_stamp h.row ne) (no_birth h.row) x in
       let row_grip = upper.below in let row_own = own_row a.view row upper.is_row row_grip in
       let more : row.stamp + 2 + 2 ≡ row.stamp + 4 = omega arith in
@@ -214,7 +212,7 @@ module _ (a b c d e f g : Known) (parent : Grip) (p : Side) (row : Grip) (side :
           unmarked = omega (arith, clean);
           own = inr (record { reached = omega (arith, row_own.reached, to_g.reached row.row); birth = row_own.birth; is_birth = to_g.knows row.row Birth row_own.birth (no_birth row.row) row_own.is_birth; now = subst (Among row_own.birth) (sym to_g.present) row_own.now });
         };
-        above = f_to_g.knows parent.row (link_field p) raised.row (λ z. link_no_stamp p z.1) (stored_here e f (turned e.view parent.row p row.row raised.row row.key) parent.row (link_field p) raised.row t.raise refl);
+        above = f_to_g.knows parent.row (link_field p) raised.row (λ z. link_no_stamp p z.1) (stored_here e f (link_turned e.view parent.row p row.row raised.row row.key) parent.row (link_field p) raised.row t.raise refl);
         below = f_to_g.knows raised.row (link_field (other side)) row.row (λ z. link_no_stamp (other side) z.1) (e_to_f.knows raised.row (link_field (other side)) row.row (λ z. apart (sym z.0)) (stored_here d e (lifted d.view parent.row p row.row side raised.row) raised.row (link_field (other side)) row.row t.lift refl));
         to_do = ap (λ (k : Known). k.view.debt.to_do) t.clear ∙ ap (λ (k : Known). k.view.debt.to_do) t.raise;
         noted = λ nz. record {
@@ -253,12 +251,12 @@ by_side a b raised d e x same h = subst (λ (s : Side). Becomes a b (read a.view
 pub key_on : (a b c d e : Known) (parent : Grip) (p : Side) (row : Grip) (side : Side) (raised : Grip) (middle key : ℕ) → Becomes a b (read a.view raised.row (link_field (other side)) middle) → Becomes b c (shrunk b.view parent.row p row.row side raised.row (row.stamp + 2) key)
     → Becomes c d (lowered c.view parent.row p row.row side raised.row middle) → Becomes d e (lifted d.view parent.row p row.row side raised.row) → HasGrip a.view row → IsKnown e.view.words.knows row.row Key row.key
 key_on a b c d e parent p row side raised middle key load mark lower lift h =
-    key_known a b c d e (known_as e (turned e.view parent.row p row.row raised.row row.key)) (known_as e (cleared (turned e.view parent.row p row.row raised.row row.key) row.row (row.stamp + 2 + 2))) parent p row side raised middle key
+    key_known a b c d e (known_as e (link_turned e.view parent.row p row.row raised.row row.key)) (known_as e (cleared (link_turned e.view parent.row p row.row raised.row row.key) row.row (row.stamp + 2 + 2))) parent p row side raised middle key
     (record { load = load; mark = mark; lower = lower; lift = lift; raise = refl; clear = refl }) h
 
 -- and the stamps of the three rows
 pub stamps_on : (a b c d e : Known) (parent : Grip) (p : Side) (row : Grip) (side : Side) (raised : Grip) (middle key : ℕ) → Becomes a b (read a.view raised.row (link_field (other side)) middle) → Becomes b c (shrunk b.view parent.row p row.row side raised.row (row.stamp + 2) key)
     → Becomes c d (lowered c.view parent.row p row.row side raised.row middle) → Becomes d e (lifted d.view parent.row p row.row side raised.row) → IsEdge a.view (edge_at parent p row) → IsEdge a.view (edge_at row side raised) → HasStamps e.view parent.row row.row raised.row
 stamps_on a b c d e parent p row side raised middle key load mark lower lift upper below =
-    stamps_known a b c d e (known_as e (turned e.view parent.row p row.row raised.row row.key)) (known_as e (cleared (turned e.view parent.row p row.row raised.row row.key) row.row (row.stamp + 2 + 2))) parent p row side raised middle key
+    stamps_known a b c d e (known_as e (link_turned e.view parent.row p row.row raised.row row.key)) (known_as e (cleared (link_turned e.view parent.row p row.row raised.row row.key) row.row (row.stamp + 2 + 2))) parent p row side raised middle key
     (record { load = load; mark = mark; lower = lower; lift = lift; raise = refl; clear = refl }) upper.above below.below upper.apart (λ q. below.apart (sym q))

@@ -1,10 +1,8 @@
 -- Steps by which a pass comes to know another word of one field, and knows all else as before.
 use Rattle.std.proofs.Common.{◌≡◌, ◌≢◌, ◌≤◌, ◌∙◌, ◌⊎◌, ◌==◌, ◌&&◌, inl, inr, ℕ, List, [], ◌∷◌, Bool, true, false, cond, refl, sym, ap, subst, arith, nat_lt, eqb-true, lt-ltb}
-use Rattle.snap_prelude.specs.{Among, Becomes, Birth, Fact, fact, Field, forgotten}
-use Rattle.snap_prelude.specs.{IsKnown, Key, Known, led_to, link_field, place_of}
-use Rattle.snap_prelude.specs.{read, same_field, Side, Stamp, times, View}
-use Rattle.snap_shape.specs.Grips.{HasGrip, IsOfNow}
-use Rattle.snap_shape.specs.declared.grip.Grip.{Grip}
+use Rattle.snap_prelude.specs.{Among, Becomes, Birth, Fact, fact, Field, forgotten, IsKnown, Key, Known, led_to}
+use Rattle.snap_prelude.specs.{link_field, place_of, read, same_field, Side, Stamp, times, View}
+use Rattle.snap_shape.specs.{Grips.HasGrip, Grips.IsOfNow, declared.grip.Grip.Grip}
 use Rattle.snap_prelude.proofs.Common.{one_place, times-append}
 
 -- what stays where the words of some fields change

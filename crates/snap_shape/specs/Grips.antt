@@ -1,8 +1,6 @@
 -- What a pass knows of a row under its lock, and of how held rows are joined.
 use Rattle.std.specs.Prelude.{◌≡◌, ◌≢◌, ◌⊎◌, ◌≤◌, ◌%◌, ℕ}
-use Rattle.snap_shape.specs.declared.grip.Edge.{Edge}
-use Rattle.snap_shape.specs.declared.grip.Grip.{Grip}
-use Rattle.snap_shape.specs.declared.grip.Turn.{Turn}
+use Rattle.snap_shape.specs.{declared.grip.Edge.Edge, declared.grip.Grip.Grip, declared.grip.Turn.Turn}
 use Rattle.snap_prelude.specs.{Among, Birth, IsKnown, Key, link_field, Right, Side, Stamp, View}
 
 -- row 0, or a row that was reached and is of this epoch

@@ -1,11 +1,9 @@
 -- What an unlinking and a rotation leave of what their pass knows. The map stays as it is.
 use Rattle.std.specs.Prelude.{◌≡◌, ◌≢◌, ◌+◌, ◌≤◌, ℕ, Some, true}
-use Rattle.snap_prelude.specs.{Field, held_words, IsKnown, IsNoted, key_at}
+use Rattle.snap_prelude.specs.{Field, held_words, IsKnown, IsNoted, to_do_at}
 use Rattle.snap_prelude.specs.{Known, no_more_notes, Nothing, other, times, View}
-use Rattle.snap_shape.specs.Grips.{HasGrip, Leads}
-use Rattle.snap_shape.specs.declared.grip.Edge.{Edge}
-use Rattle.snap_shape.specs.declared.grip.Grip.{Grip}
-use Rattle.snap_shape.specs.declared.grip.Turn.{Turn}
+use Rattle.snap_shape.specs.{Grips.HasGrip, Grips.Leads, declared.grip.Edge.Edge, declared.grip.Grip.Grip}
+use Rattle.snap_shape.specs.{declared.grip.Turn.Turn}
 
 -- the pass with what another view has of such a change: its steps, what it knows, and its debt
 abbrev pub shaped : Known → View → Known
@@ -24,7 +22,7 @@ shaped k w =
 
 -- what a change at these rows leaves: no more is held, and what was known of other rows, and of the
 -- key and the stamp of any row but the changed one, still is
-pub record Keeps (old new : Known) (upper changed lower : ℕ) : Type 0 where
+pub record KeepsRest (old new : Known) (upper changed lower : ℕ) : Type 0 where
   pub is : new ≡ shaped old new.view
   pub reached : (r : ℕ) → times r old.view.trail.reached ≤ times r new.view.trail.reached
   pub whole : new.view.doing ≡ Nothing
@@ -36,9 +34,9 @@ pub record Keeps (old new : Known) (upper changed lower : ℕ) : Type 0 where
 
 -- the child has left: the parent leads to its one child, and the to-do key is the parent's
 pub record Unlinks (old new : Known) (e : Edge) (only : ℕ) : Type 0 where
-  pub keeps : Keeps old new e.parent.row e.child.row e.child.row
+  pub keeps : KeepsRest old new e.parent.row e.child.row e.child.row
   pub leads : Leads new.view e.parent.row e.side only
-  pub to_do : new.view.debt.to_do ≡ key_at e.parent.row e.parent.key
+  pub to_do : new.view.debt.to_do ≡ to_do_at e.parent.row e.parent.key
 
 -- the row with its next count
 abbrev pub later : Grip → Grip
@@ -46,7 +44,7 @@ later g = record g { stamp = g.stamp + 4 }
 
 -- the row went down, and its child on the side came up in its place
 pub record Rotates (old new : Known) (t : Turn) : Type 0 where
-  pub keeps : Keeps old new t.parent.row t.row.row t.raised.row
+  pub keeps : KeepsRest old new t.parent.row t.row.row t.raised.row
   pub lowered : HasGrip new.view (later t.row)
   pub above : Leads new.view t.parent.row t.parent_side t.raised.row
   pub below : Leads new.view t.raised.row (other t.side) t.row.row

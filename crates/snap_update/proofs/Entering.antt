@@ -1,14 +1,12 @@
 -- The entry of a write, what comes before it, and the release of the lock after it.
 use Rattle.std.proofs.Common.{◌≡◌, inl, inr, ℕ, ◌≤◌, List, [], ◌∷◌, ◌++◌, append-nil, Option, None, refl, sym, ap, ◌∙◌, subst, arith}
-use Rattle.snap_locks.specs.Held.{HasLocked, tried}
-use Rattle.snap_prelude.specs.{all_noted, Becomes, Begins, Call, calls_of, drew, Enters}
-use Rattle.snap_prelude.specs.{Entry, entry, Fact, Field, HasDrawn, hung, IsLegal, Known}
-use Rattle.snap_prelude.specs.{locked, made_entry, no_more_reached, notes_of, Put, removed}
-use Rattle.snap_prelude.specs.{same_rows, SeesMore, stored, times, unlocked, View, WordNote}
-use Rattle.snap_search.proofs.Walking.{begins_on}
-use Rattle.snap_search.proofs.Working.{notes_on, no_notes}
+use Rattle.snap_locks.specs.Held.{HasLocked, with_refusals}
+use Rattle.snap_prelude.specs.{all_noted, Becomes, Begins, Call, calls_of, drew, Enters, Entry, entry_of, Fact, Field}
+use Rattle.snap_prelude.specs.{HasDrawn, hung, IsLegal, Known, locked, made_entry, no_more_reached, notes_of, Put}
+use Rattle.snap_prelude.specs.{removed, same_rows, SeesMore, stored, times, unlocked, View, WordNote}
+use Rattle.snap_search.proofs.{Walking.begins_on, Working.no_notes, Working.notes_on}
 use Rattle.snap_update.specs.Answers.{GoesOn, LinksWhatItDraws, Made, Writes}
-use Rattle.snap_update.specs.Held.{Fills, stored_in}
+use Rattle.snap_update.specs.Held.{MakesLeaf, stored_in}
 use Rattle.snap_update.proofs.Going.{written_on, removed_added, alone_removed, goes_links, links_on}
 use Rattle.snap_update.proofs.Holding.{removed_alone}
 
@@ -16,10 +14,10 @@ abbrev known : Known → View → Known
 known k v = record { table = k.table; view = v }
 
 -- an entry that may be made after more was seen may be made before
-enters_from : (v w : View) (h : List Entry) (call : Call) (reply : Option ℕ) → w.who ≡ v.who → w.mine ≡ v.mine → SeesMore v w → Enters w h (entry w.who call reply) → Enters v h (entry v.who call reply)
+enters_from : (v w : View) (h : List Entry) (call : Call) (reply : Option ℕ) → w.who ≡ v.who → w.mine ≡ v.mine → SeesMore v w → Enters w h (entry_of w.who call reply) → Enters v h (entry_of v.who call reply)
 enters_from v w h call reply who mine sees e = record {
   goes_on = begins sees e.goes_on;
-  legal = subst (λ (i : ℕ). IsLegal (h ++ entry i call reply ∷ [])) who e.legal;
+  legal = subst (λ (i : ℕ). IsLegal (h ++ entry_of i call reply ∷ [])) who e.legal;
   own = ap (calls_of h) (sym who) ∙ e.own ∙ mine;
 }
   where
@@ -34,7 +32,7 @@ no_links v w drawn own = record { rows = []; drawn = drawn ∙ sym (append-nil v
 pub made_after : (old mid new : Known) (key : ℕ) (r : List ℕ) (l : List WordNote) (call : Call) (reply : Option ℕ) → GoesOn old mid key r l → Made mid new call reply → Made old new call reply
 made_after old mid new key r l call reply g m =
     let who : mid.view.who ≡ old.view.who = ap (λ (k : Known). k.view.who) g.is in
-    let same = ap (λ (i : ℕ). entry i call reply) who in record {
+    let same = ap (λ (i : ℕ). entry_of i call reply) who in record {
       is = written_on old mid new g.is m.is;
       log = m.log;
       enters = enters_from old.view mid.view m.log call reply who g.mine g.sees m.enters;
@@ -51,7 +49,7 @@ pub writes_after : (old mid new : Known) (key : ℕ) (r : List ℕ) (l : List Wo
 writes_after old mid new key r l call reply g m = record { made = made_after old mid new key r l call reply g m.made; holds = m.holds ∙ g.holds }
 
 -- a write whose row is locked before it and freed after it
-freed : (old b : Known) (refused : List Fact) (row : ℕ) (call : Call) (reply : Option ℕ) → Writes (known old (locked (tried old.view refused) row)) b call reply → old.view.holds ≡ [] → Writes old (known b (unlocked b.view row)) call reply
+freed : (old b : Known) (refused : List Fact) (row : ℕ) (call : Call) (reply : Option ℕ) → Writes (known old (locked (with_refusals old.view refused) row)) b call reply → old.view.holds ≡ [] → Writes old (known b (unlocked b.view row)) call reply
 freed old b refused row call reply w free = let m = w.made in record {
   made = record {
     is = ap (λ (k : Known). known k (unlocked k.view row)) m.is;
@@ -72,9 +70,9 @@ pub writes_locked : (old a b new : Known) (row : ℕ) (call : Call) (reply : Opt
 writes_locked old a b new row call reply h w e free = subst (λ (k : Known). Writes old k call reply) (sym e) (freed old b h.refused row call reply (subst (λ (k : Known). Writes k b call reply) h.is w) free)
 
 -- the entry at the row that has the key: its value word was stored, or was 0
-pub stores_here : (old new : Known) (call : Call) (reply : Option ℕ) (log : List Entry) (row x : ℕ) → Enters old.view log (entry old.view.who call reply) → Becomes old new (stored old.view log (entry old.view.who call reply) row x) → Writes old new call reply
+pub stores_here : (old new : Known) (call : Call) (reply : Option ℕ) (log : List Entry) (row x : ℕ) → Enters old.view log (entry_of old.view.who call reply) → Becomes old new (stored old.view log (entry_of old.view.who call reply) row x) → Writes old new call reply
 stores_here old new call reply log row x enters e =
-    let w : View = stored old.view log (entry old.view.who call reply) row x in
+    let w : View = stored old.view log (entry_of old.view.who call reply) row x in
     let whole : Writes old (known old w) call reply = record {
       made = record {
         is = refl;
@@ -91,9 +89,9 @@ stores_here old new call reply log row x enters e =
       holds = refl;
     } in subst (λ (k : Known). Writes old k call reply) (sym e) whole
 
-pub confirms_here : (old new : Known) (call : Call) (reply : Option ℕ) (log : List Entry) → Enters old.view log (entry old.view.who call reply) → Becomes old new (made_entry old.view log (entry old.view.who call reply)) → Writes old new call reply
+pub confirms_here : (old new : Known) (call : Call) (reply : Option ℕ) (log : List Entry) → Enters old.view log (entry_of old.view.who call reply) → Becomes old new (made_entry old.view log (entry_of old.view.who call reply)) → Writes old new call reply
 confirms_here old new call reply log enters e =
-    let w : View = made_entry old.view log (entry old.view.who call reply) in
+    let w : View = made_entry old.view log (entry_of old.view.who call reply) in
     let whole : Writes old (known old w) call reply = record {
       made = record {
         is = refl;
@@ -114,7 +112,7 @@ confirms_here old new call reply log enters e =
 abbrev filled : View → List WordNote → ℕ → View → View
 filled v l leaf w = let u : View = drew (all_noted v l) leaf in record u { trail = no_more_reached u.trail w.trail; fresh = same_rows u.fresh w.fresh }
 
-hangs_at : (old : Known) (l : List WordNote) (leaf : ℕ) (w : View) (call : Call) (parent : ℕ) (field : Field) (log : List Entry) → Enters (filled old.view l leaf w) log (entry old.view.who call None) → Writes old (known old (hung (filled old.view l leaf w) log (entry old.view.who call None) parent field leaf)) call None
+hangs_at : (old : Known) (l : List WordNote) (leaf : ℕ) (w : View) (call : Call) (parent : ℕ) (field : Field) (log : List Entry) → Enters (filled old.view l leaf w) log (entry_of old.view.who call None) → Writes old (known old (hung (filled old.view l leaf w) log (entry_of old.view.who call None) parent field leaf)) call None
 hangs_at old l leaf w call parent field log enters = record {
   made = record {
     is = refl;
@@ -136,9 +134,9 @@ hangs_at old l leaf w call parent field log enters = record {
   holds = refl;
 }
 
-pub hangs : (rows : ℕ) (old a b new : Known) (leaf key value parent : ℕ) (field : Field) (log : List Entry) → HasDrawn rows old a leaf → Fills a b leaf key value → Enters b.view log (entry b.view.who (Put key value) None) → Becomes b new (hung b.view log (entry b.view.who (Put key value) None) parent field leaf) → Writes old new (Put key value) None
+pub hangs : (rows : ℕ) (old a b new : Known) (leaf key value parent : ℕ) (field : Field) (log : List Entry) → HasDrawn rows old a leaf → MakesLeaf a b leaf key value → Enters b.view log (entry_of b.view.who (Put key value) None) → Becomes b new (hung b.view log (entry_of b.view.who (Put key value) None) parent field leaf) → Writes old new (Put key value) None
 hangs rows old a b new leaf key value parent field log d f enters e =
     let l : List WordNote = notes_of d.0 in let call : Call = Put key value in
     let is : (let k : Known = known old (filled old.view l leaf b.view) in b ≡ k) = f.is ∙ ap (λ (k : Known). stored_in k b.view) d.3 in
-    let whole : (let k : Known = known old (hung (filled old.view l leaf b.view) log (entry old.view.who call None) parent field leaf) in new ≡ k) = e ∙ ap (λ (k : Known). known k (hung k.view log (entry k.view.who call None) parent field leaf)) is in
-    subst (λ (k : Known). Writes old k call None) (sym whole) (hangs_at old l leaf b.view call parent field log (subst (λ (k : Known). Enters k.view log (entry k.view.who call None)) is enters))
+    let whole : (let k : Known = known old (hung (filled old.view l leaf b.view) log (entry_of old.view.who call None) parent field leaf) in new ≡ k) = e ∙ ap (λ (k : Known). known k (hung k.view log (entry_of k.view.who call None) parent field leaf)) is in
+    subst (λ (k : Known). Writes old k call None) (sym whole) (hangs_at old l leaf b.view call parent field log (subst (λ (k : Known). Enters k.view log (entry_of k.view.who call None)) is enters))

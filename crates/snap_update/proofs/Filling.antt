@@ -1,17 +1,16 @@
 -- A row that is made a leaf, and the place at which it is linked.
-use Rattle.std.proofs.Common.{◌≡◌, ◌⊎◌, inl, inr, ℕ, ◌+◌, ◌<◌, false, List, [], ◌∷◌, add-one, refl, sym, ap, ◌∙◌, subst, arith}
+use Rattle.std.proofs.Common.{◌≡◌, ◌⊎◌, inl, inr, ℕ, ◌+◌, ◌<◌, false, [], ◌∷◌, add-one, refl, sym, ap, ◌∙◌, subst, arith}
 use Rattle.snap_copy.proofs.Copying.{wrote_still}
-use Rattle.snap_prelude.specs.{Becomes, Birth, Fact, Field, Height, IsBorn, IsKnown}
-use Rattle.snap_prelude.specs.{IsPlace, Key, Known, link_field, NoLink, On, own_stored}
-use Rattle.snap_prelude.specs.{read, same_field, Side, Stamp, Standing, times, Value, View}
+use Rattle.snap_prelude.specs.{Becomes, Birth, Field, Height, IsBorn, IsKnown, IsLeafPlace, Key, Known, link_field}
+use Rattle.snap_prelude.specs.{NoLink, On, own_word_stored, read, same_field, Side, Stamp, times, Value}
 use Rattle.snap_stamp.specs.declared.layout.Field.TheVariants.{Left, Right}
-use Rattle.snap_update.specs.Held.{Holds, IsStill, Fills, stored_in}
+use Rattle.snap_update.specs.Held.{Holds, IsStill, MakesLeaf, stored_in}
 use Rattle.snap_update.proofs.Holding.{held_once, knows_read, known_still}
 
-wrote_now : (old new : Known) (r : ℕ) (f : Field) (x : ℕ) → Becomes old new (own_stored old.view r f x) → IsKnown new.view.fresh.wrote r f x
+wrote_now : (old new : Known) (r : ℕ) (f : Field) (x : ℕ) → Becomes old new (own_word_stored old.view r f x) → IsKnown new.view.fresh.wrote r f x
 wrote_now old new r f x e = subst (λ (k : Known). IsKnown k.view.fresh.wrote r f x) (sym e) (inl (refl, refl, refl))
 
-stored_once : (old new : Known) (r : ℕ) (f : Field) (x : ℕ) → Becomes old new (own_stored old.view r f x) → new ≡ stored_in old new.view
+stored_once : (old new : Known) (r : ℕ) (f : Field) (x : ℕ) → Becomes old new (own_word_stored old.view r f x) → new ≡ stored_in old new.view
 stored_once old new r f x e = e ∙ ap (λ (k : Known). stored_in old k.view) (sym e)
 
 stored_on : (old mid new : Known) → mid ≡ stored_in old mid.view → new ≡ stored_in mid new.view → new ≡ stored_in old new.view
@@ -19,8 +18,8 @@ stored_on old mid new a b = b ∙ ap (λ (k : Known). stored_in k new.view) a
 
 -- key, birth, height, the two links and the value
 pub fills : (a b c d e f g : Known) (leaf key birth value : ℕ) → 0 < times leaf a.view.fresh.own → 0 < times birth a.view.words.present
-    → Becomes a b (own_stored a.view leaf Key key) → Becomes b c (own_stored b.view leaf Birth birth) → Becomes c d (own_stored c.view leaf Height 1) → Becomes d e (own_stored d.view leaf Left 0) → Becomes e f (own_stored e.view leaf Right 0) → Becomes f g (own_stored f.view leaf Value (value + 1))
-    → Fills a g leaf key value
+    → Becomes a b (own_word_stored a.view leaf Key key) → Becomes b c (own_word_stored b.view leaf Birth birth) → Becomes c d (own_word_stored c.view leaf Height 1) → Becomes d e (own_word_stored d.view leaf Left 0) → Becomes e f (own_word_stored e.view leaf Right 0) → Becomes f g (own_word_stored f.view leaf Value (value + 1))
+    → MakesLeaf a g leaf key value
 fills a b c d e f g leaf key birth value own now s1 s2 s3 s4 s5 s6 =
     let o3 = stored_on a c d (stored_on a b c (stored_once a b leaf Key key s1) (stored_once b c leaf Birth birth s2)) (stored_once c d leaf Height 1 s3) in
     let o5 = stored_on a e f (stored_on a d e o3 (stored_once d e leaf Left 0 s4)) (stored_once e f leaf Right 0 s5) in
@@ -44,7 +43,7 @@ fills a b c d e f g leaf key birth value own now s1 s2 s3 s4 s5 s6 =
     }
 
 -- the row is the place still, and its link is 0
-pub places : (old a b : Known) (key row stamp x : ℕ) (side : Side) (f : Field) → Holds old.view row → IsStill old a row stamp → Becomes a b (read a.view row f x) → f ≡ link_field side → x ≡ 0 → old.view.way.reads ≡ On key (NoLink row stamp side) → IsPlace b.view key row (link_field side)
+pub places : (old a b : Known) (key row stamp x : ℕ) (side : Side) (f : Field) → Holds old.view row → IsStill old a row stamp → Becomes a b (read a.view row f x) → f ≡ link_field side → x ≡ 0 → old.view.way.reads ≡ On key (NoLink row stamp side) → IsLeafPlace b.view key row (link_field side)
 places old a b key row stamp x side f holds still e by none way =
     let held_a : a.view.holds ≡ row ∷ [] = ap (λ (k : Known). k.view.holds) still.works.is ∙ holds in record {
       held = held_once b.view.holds row (ap (λ (k : Known). k.view.holds) e ∙ held_a);
@@ -65,33 +64,5 @@ places old a b key row stamp x side f holds still e by none way =
       now = omega (arith, l.now, ap (λ (k : Known). times l.birth k.view.words.present) e);
       stamp = l.stamp;
       is_stamp = known_still a b row f x row Stamp l.stamp e l.is_stamp;
-      unmarked = l.unmarked;
-    })
-
--- what was drawn and filled leaves the place
-pub place_stays : (v w : View) (key row : ℕ) (f : Field) → IsPlace v key row f → w.holds ≡ v.holds → w.way.reads ≡ v.way.reads → w.words.knows ≡ v.words.knows → w.words.present ≡ v.words.present → IsPlace w key row f
-place_stays v w key row f p holds reads knows present = record {
-  held = omega (arith, p.held, ap (times row) holds);
-  stamp = p.stamp;
-  side = p.side;
-  way = way p.way;
-  by_side = p.by_side;
-  still = subst (λ (l : List Fact). IsKnown l row Stamp p.stamp) (sym knows) p.still;
-  none = subst (λ (l : List Fact). IsKnown l row f 0) (sym knows) p.none;
-  live = lives p.live;
-}
-  where
-    way : (v.way.reads ≡ On key (Standing row p.stamp p.side)) ⊎ (v.way.reads ≡ On key (NoLink row p.stamp p.side)) → (w.way.reads ≡ On key (Standing row p.stamp p.side)) ⊎ (w.way.reads ≡ On key (NoLink row p.stamp p.side))
-    way (inl e) = inl (reads ∙ e)
-    way (inr e) = inr (reads ∙ e)
-
-    lives : (row ≡ 0) ⊎ IsBorn v row → (row ≡ 0) ⊎ IsBorn w row
-    lives (inl z) = inl z
-    lives (inr l) = inr (record {
-      birth = l.birth;
-      is_birth = subst (λ (x : List Fact). IsKnown x row Birth l.birth) (sym knows) l.is_birth;
-      now = omega (arith, l.now, ap (times l.birth) present);
-      stamp = l.stamp;
-      is_stamp = subst (λ (x : List Fact). IsKnown x row Stamp l.stamp) (sym knows) l.is_stamp;
       unmarked = l.unmarked;
     })

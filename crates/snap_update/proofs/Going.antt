@@ -1,24 +1,17 @@
 -- A write that goes on without its entry.
 use Rattle.std.proofs.Common.{◌≡◌, inl, inr, ℕ, ◌<◌, ◌≤◌, List, [], ◌∷◌, ◌++◌, append_assoc, append-nil, refl, sym, ap, ◌∙◌, subst, arith}
 use Rattle.snap_prelude.proofs.Common.{dite, one_other, removed_other, removed_same, ℕ_discrete}
-use Rattle.snap_copy.specs.Owning.{IsCopied}
-use Rattle.snap_copy.specs.declared.Wanted.{Wanted}
-use Rattle.snap_locks.specs.Held.{HasLocked, tried}
+use Rattle.snap_copy.specs.{Owning.IsCopied, declared.Wanted.Wanted}
+use Rattle.snap_locks.specs.Held.{HasLocked, with_refusals}
 use Rattle.snap_prelude.specs.{AllAre, Among, Becomes, Fact, In, KeepsReached, Known}
 use Rattle.snap_prelude.specs.{locked, removed, times, unlocked, View, WordNote}
 use Rattle.snap_search.specs.Prelude.{Works}
-use Rattle.snap_search.proofs.Walking.{sees_on, times-append}
-use Rattle.snap_search.proofs.Working.{notes_on, no_notes}
-use Rattle.snap_update.specs.Answers.{written, GoesOn, LinksWhatItDraws}
-use Rattle.snap_update.specs.Held.{IsAtWork, IsReady}
+use Rattle.snap_search.proofs.{Walking.sees_on, Walking.times-append, Working.no_notes, Working.notes_on}
+use Rattle.snap_update.specs.{Answers.GoesOn, Answers.LinksWhatItDraws, Answers.written, Held.IsAtWork, Held.IsReady}
 use Rattle.snap_update.proofs.Holding.{removed_alone}
 
 pub written_on : (old mid new : Known) → mid ≡ written old mid.view → new ≡ written mid new.view → new ≡ written old new.view
 written_on old mid new a b = b ∙ ap (λ (k : Known). written k new.view) a
-
--- a list with a row less, and with that row again
-pub removed_le : (x r : ℕ) (l : List ℕ) → times r (removed x l) ≤ times r l
-removed_le x r l = dite (ℕ_discrete r x) (λ same. omega (arith, ap (λ (i : ℕ). times i (removed x l)) same, removed_same x l)) (λ ne. omega (arith, removed_other x r l ne))
 
 pub removed_added : (x r : ℕ) (l : List ℕ) → times r (removed x (x ∷ l)) ≤ times r l
 removed_added x r l = dite (ℕ_discrete r x) (λ same. omega (arith, ap (λ (i : ℕ). times i (removed x (x ∷ l))) same, removed_same x (x ∷ l))) (λ ne. omega (arith, removed_other x r (x ∷ l) ne, one_other r x ne))
@@ -108,14 +101,14 @@ abbrev known : Known → View → Known
 known k v = record { table = k.table; view = v }
 
 -- between a lock and its release
-freed : (old b : Known) (refused : List Fact) (key row : ℕ) (r : List ℕ) (l : List WordNote) → GoesOn (known old (locked (tried old.view refused) row)) b key r l → old.view.holds ≡ [] → GoesOn old (known b (unlocked b.view row)) key r l
+freed : (old b : Known) (refused : List Fact) (key row : ℕ) (r : List ℕ) (l : List WordNote) → GoesOn (known old (locked (with_refusals old.view refused) row)) b key r l → old.view.holds ≡ [] → GoesOn old (known b (unlocked b.view row)) key r l
 freed old b refused key row r l g free = record {
   is = ap (λ (k : Known). known k (unlocked k.view row)) g.is;
   mine = g.mine;
   stage = g.stage;
   holds = ap (removed row) (g.holds ∙ ap (λ (h : List ℕ). row ∷ h) free) ∙ removed_alone row ∙ sym free;
   debt = g.debt;
-  sees = sees_on old.view (locked (tried old.view refused) row) b.view refl refl (inl refl) g.sees;
+  sees = sees_on old.view (locked (with_refusals old.view refused) row) b.view refl refl (inl refl) g.sees;
   noted = g.noted;
   drawn = g.drawn;
   linked = g.linked;

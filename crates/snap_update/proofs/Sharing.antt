@@ -1,16 +1,12 @@
 -- A write at a row whose child is of an earlier epoch.
 use Rattle.std.proofs.Common.{◌≡◌, ◌≢◌, ◌⊎◌, inl, inr, ℕ, List, [], ◌∷◌, sym, ap, ◌∙◌, subst, arith}
-use Rattle.snap_copy.specs.Owning.{Owns, Lacks}
-use Rattle.snap_copy.specs.declared.Wanted.{Wanted}
-use Rattle.snap_prelude.specs.{AllAre, Among, Becomes, Birth, Field, In, IsAbove}
-use Rattle.snap_prelude.specs.{IsBorn, IsKnown, Known, link_field, Next, On, read}
-use Rattle.snap_prelude.specs.{Right, Side, Stamp, Standing, times, WordNote}
+use Rattle.snap_copy.specs.{Owning.Lacks, Owning.Owns, declared.Wanted.Wanted}
+use Rattle.snap_prelude.specs.{AllAre, Among, Becomes, Birth, Field, In, IsAbove, IsBorn, IsKnown, Known, link_field}
+use Rattle.snap_prelude.specs.{Next, On, read, Right, Side, Stamp, Standing, times, WordNote}
 use Rattle.snap_search.specs.Prelude.{IsReached, Works}
 use Rattle.snap_search.proofs.Working.{works_on, word_works}
-use Rattle.snap_update.specs.Answers.{GoesOn}
-use Rattle.snap_update.specs.Attempts.{Brings}
-use Rattle.snap_update.specs.Held.{Holds, IsStill}
-use Rattle.snap_update.specs.declared.attempt.Attempt.TheVariants.{Again}
+use Rattle.snap_update.specs.{Answers.GoesOn, Attempts.Brings, Held.Holds, Held.IsStill}
+use Rattle.snap_update.specs.{declared.attempt.Attempt.TheVariants.Again}
 use Rattle.snap_update.proofs.Going.{goes_on, goes_works, copied_goes}
 use Rattle.snap_update.proofs.Holding.{held_once, knows_read, known_still}
 

@@ -4,16 +4,14 @@ use Rattle.snap_copy.proofs.Copying.{full_works, last_full}
 use Rattle.snap_locks.specs.Held.{HasLocked}
 use Rattle.snap_prelude.specs.{Among, Becomes, Call, call_key, Done, Epoch, FoundFull}
 use Rattle.snap_prelude.specs.{KeepsReached, Known, Next, notes_of, Put, unlocked, View, WordNote}
-use Rattle.snap_search.specs.Prelude.{births_of, EndsAbsent, EndsAt, EndsHere}
-use Rattle.snap_search.specs.Prelude.{EndsOlder, EndsShared, Finds, IsReached, row_at}
-use Rattle.snap_search.specs.declared.down.Spot.{Spot}
-use Rattle.snap_search.specs.declared.places.Found.{Found}
-use Rattle.snap_search.specs.declared.places.Place.{Place}
+use Rattle.snap_search.specs.{Prelude.births_of, Prelude.EndsAbsent, Prelude.EndsAt, Prelude.EndsHere}
+use Rattle.snap_search.specs.{Prelude.EndsOlder, Prelude.EndsShared, Prelude.Finds, Prelude.IsReached, Prelude.row_at}
+use Rattle.snap_search.specs.{declared.down.Spot.Spot, declared.places.Found.Found, declared.places.Place.Place}
 use Rattle.snap_search.specs.declared.places.Place.TheVariants.{Here, Below, Shared}
 use Rattle.snap_prelude.proofs.Common.{total-append}
 use Rattle.snap_search.proofs.Working.{works_on}
 use Rattle.snap_update.specs.Answers.{GoesOn, RefusedFull, NeedsRow, PutsAbsent, older_births, is_older}
-use Rattle.snap_update.specs.Attempts.{Attempts, AttemptsAt, Brings, HasMetSo, KeepsTrying, RefusesOr, Tries}
+use Rattle.snap_update.specs.Attempts.{Attempts, AttemptsAt, Brings, HasMetSo, KeepsTrying, RefusesOr, AttemptsWrite}
 use Rattle.snap_update.specs.declared.attempt.Attempt.{Attempt}
 use Rattle.snap_update.specs.declared.attempt.Attempt.TheVariants.{Made, Again, Refused}
 use Rattle.snap_update.proofs.Entering.{writes_after, writes_locked}
@@ -115,7 +113,7 @@ one_older key epoch births h = subst (λ (l : List ℕ). 0 < older_births key ep
     go [] = last
     go (x ∷ xs) = omega (arith, go xs)
 
-tries_after : (rows : ℕ) (old mid new : Known) (call : Call) (t : Attempt) (f : Found) → Finds rows old mid (call_key call) f → Attempts rows mid new call t → Tries rows old new call t
+tries_after : (rows : ℕ) (old mid new : Known) (call : Call) (t : Attempt) (f : Found) → Finds rows old mid (call_key call) f → Attempts rows mid new call t → AttemptsWrite rows old new call t
 tries_after rows old mid new call (Made reply) f w h = let key : ℕ = call_key call in let l : List WordNote = found key f.epoch w.counted w.births in
     writes_after old mid new key [] l call reply (goes_works old mid key l w.works) h
 tries_after rows old mid new call Again f w h = let key : ℕ = call_key call in let l : List WordNote = found key f.epoch w.counted w.births in (
@@ -138,7 +136,7 @@ tries_after rows old mid new call (Refused x) f w h = let key : ℕ = call_key c
   w.same,
 )
 
-tries_shared : (rows : ℕ) (old mid new : Known) (at : Spot) (epoch : ℕ) (call : Call) (t : Attempt) → Finds rows old mid (call_key call) (record { place = Shared at; epoch = epoch }) → Brings rows mid new (call_key call) t → Tries rows old new call t
+tries_shared : (rows : ℕ) (old mid new : Known) (at : Spot) (epoch : ℕ) (call : Call) (t : Attempt) → Finds rows old mid (call_key call) (record { place = Shared at; epoch = epoch }) → Brings rows mid new (call_key call) t → AttemptsWrite rows old new call t
 tries_shared rows old mid new at epoch call (Made reply) w h = absurd h
 tries_shared rows old mid new at epoch call Again w h = let key : ℕ = call_key call in let l : List WordNote = found key epoch w.counted w.births in (
   h.0,
@@ -166,7 +164,7 @@ tries_shared rows old mid new at epoch call (Refused x) w h = let key : ℕ = ca
 )
 
 -- at any place
-pub tries_at : (rows : ℕ) (old mid new : Known) (call : Call) (t : Attempt) (p : Place) (epoch : ℕ) → Finds rows old mid (call_key call) (record { place = p; epoch = epoch }) → AttemptsAt rows mid new call p t → Tries rows old new call t
+pub tries_at : (rows : ℕ) (old mid new : Known) (call : Call) (t : Attempt) (p : Place) (epoch : ℕ) → Finds rows old mid (call_key call) (record { place = p; epoch = epoch }) → AttemptsAt rows mid new call p t → AttemptsWrite rows old new call t
 tries_at rows old mid new call t (Here row) epoch w h = tries_after rows old mid new call t (record { place = Here row; epoch = epoch }) w h
 tries_at rows old mid new call t (Below at) epoch w h = tries_after rows old mid new call t (record { place = Below at; epoch = epoch }) w h
 tries_at rows old mid new call t (Shared at) epoch w h = tries_shared rows old mid new at epoch call t w h
@@ -179,7 +177,7 @@ met_on : (mid new : Known) (key : ℕ) (r s : List ℕ) (l m : List WordNote) (e
 met_on mid new key r s l m e same (inl z) = omega (arith, z)
 met_on mid new key r s l m e same (inr h) = subst (λ (x : ℕ). length r ≤ older_births key x l) (sym (same h.0 h.1)) h.2
 
-pub tries_on : (rows : ℕ) (old mid new : Known) (call : Call) → KeepsTrying old mid (call_key call) → Tries rows mid new call Again → KeepsTrying old new (call_key call)
+pub tries_on : (rows : ℕ) (old mid new : Known) (call : Call) → KeepsTrying old mid (call_key call) → AttemptsWrite rows mid new call Again → KeepsTrying old new (call_key call)
 tries_on rows old mid new call a b =
     let key : ℕ = call_key call in let met = b.3 in record {
       drawn = a.drawn ++ b.0;

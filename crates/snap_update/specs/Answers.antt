@@ -1,7 +1,7 @@
 -- What a write answers: its entry, or that no row was left.
 pub use Rattle.snap_copy.specs.Mending.{LinksWhatItDraws}
 use Rattle.std.specs.Prelude.{◌≡◌, ◌⊎◌, ◌==◌, cond, nat_lt, length, ℕ, ◌+◌, ◌<◌, ◌≤◌, ◌^◌, List, [], ◌∷◌, ◌++◌, Option, None, true, false}
-use Rattle.snap_prelude.specs.{AllAre, Among, Call, call_key, Done, Enters, Entry, entry, Epoch}
+use Rattle.snap_prelude.specs.{AllAre, Among, Call, call_key, Done, Enters, Entry, entry_of, Epoch}
 use Rattle.snap_prelude.specs.{Gate, In, KeepsPresent, KeepsReached, Known, Next, NotesMore, Put}
 use Rattle.snap_prelude.specs.{Remove, SeesMore, times, total, Trouble, View, WordNote, Writing}
 use Rattle.snap_model.specs.History.{told}
@@ -62,9 +62,9 @@ pub record GoesOn (old new : Known) (key : ℕ) (rows : List ℕ) (more : List W
 pub record Made (old new : Known) (call : Call) (reply : Option ℕ) : Type 0 where
   pub is : new ≡ written old new.view
   pub log : List Entry
-  pub enters : Enters old.view log (entry old.view.who call reply)
-  pub seen : new.view.seen ≡ log ++ entry old.view.who call reply ∷ []
-  pub mine : new.view.mine ≡ old.view.mine ++ entry old.view.who call reply ∷ []
+  pub enters : Enters old.view log (entry_of old.view.who call reply)
+  pub seen : new.view.seen ≡ log ++ entry_of old.view.who call reply ∷ []
+  pub mine : new.view.mine ≡ old.view.mine ++ entry_of old.view.who call reply ∷ []
   pub stage : new.view.stage ≡ Writing true false
   pub more : List WordNote
   pub noted : NotesMore old.view new.view more
@@ -78,7 +78,7 @@ pub record Writes (old new : Known) (call : Call) (reply : Option ℕ) : Type 0 
 
 -- a put whose key is absent from the map after what the pass has now seen, and this call found that
 -- every row was handed out. It made no entry, and drew no row
-pub record Refuses (rows : ℕ) (old new : Known) (call : Call) : Type 0 where
+pub record RefusesPut (rows : ℕ) (old new : Known) (call : Call) : Type 0 where
   pub absent : PutsAbsent call new.view.seen
   pub more : List WordNote
   pub goes : GoesOn old new (call_key call) [] more

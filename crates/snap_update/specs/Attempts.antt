@@ -2,10 +2,9 @@
 use Rattle.std.specs.Prelude.{◌≡◌, ◌⊎◌, ℕ, ◌≤◌, List, [], None, length}
 use Rattle.snap_prelude.specs.{Among, Call, call_key, In, Known, Next, WordNote}
 use Rattle.snap_model.specs.History.{told}
-use Rattle.snap_search.specs.Prelude.{Works}
-use Rattle.snap_search.specs.declared.places.Place.{Place}
-use Rattle.snap_search.specs.declared.places.Place.TheVariants.{Here, Below, Shared}
-use Rattle.snap_update.specs.Answers.{GoesOn, Writes, Refuses, RefusedFull, older_births}
+use Rattle.snap_search.specs.{Prelude.Works, declared.places.Place.Place, declared.places.Place.TheVariants.Below}
+use Rattle.snap_search.specs.{declared.places.Place.TheVariants.Here, declared.places.Place.TheVariants.Shared}
+use Rattle.snap_update.specs.Answers.{GoesOn, Writes, RefusesPut, RefusedFull, older_births}
 use Rattle.snap_update.specs.declared.attempt.Attempt.{Attempt}
 use Rattle.snap_update.specs.declared.attempt.Attempt.TheVariants.{Made, Again, Refused}
 
@@ -13,7 +12,7 @@ use Rattle.snap_update.specs.declared.attempt.Attempt.TheVariants.{Made, Again, 
 abbrev pub Attempts : ℕ → Known → Known → Call → Attempt → Type 0
 Attempts rows old new call (Made reply) = Writes old new call reply
 Attempts rows old new call Again = (more : List WordNote) × GoesOn old new (call_key call) [] more
-Attempts rows old new call (Refused f) = (f.rows ≡ rows) × Refuses rows old new call
+Attempts rows old new call (Refused f) = (f.rows ≡ rows) × RefusesPut rows old new call
 
 -- a try at a place whose child is of an earlier epoch: at most one row is drawn
 abbrev pub Brings : ℕ → Known → Known → ℕ → Attempt → Type 0
@@ -38,12 +37,12 @@ pub record HasMet (old new : Known) (key : ℕ) (rows : List ℕ) (more : List W
   pub few : length rows ≤ older_births key epoch more
 
 -- a try from the search on
-abbrev pub Tries : ℕ → Known → Known → Call → Attempt → Type 0
-Tries rows old new call (Made reply) = Writes old new call reply
-Tries rows old new call Again = (drawn : List ℕ)
+abbrev pub AttemptsWrite : ℕ → Known → Known → Call → Attempt → Type 0
+AttemptsWrite rows old new call (Made reply) = Writes old new call reply
+AttemptsWrite rows old new call Again = (drawn : List ℕ)
     × (more : List WordNote) × GoesOn old new (call_key call) drawn more
     × HasMet old new (call_key call) drawn more
-Tries rows old new call (Refused f) = (f.rows ≡ rows)
+AttemptsWrite rows old new call (Refused f) = (f.rows ≡ rows)
     × (r : RefusedFull rows old new call) × ((e : ℕ) → Among e old.view.words.present → r.epoch ≡ e)
 
 -- so far no more rows were drawn than older births were noted

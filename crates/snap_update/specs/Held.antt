@@ -50,6 +50,6 @@ stored_in k w =
     }
 
 -- a row of the pass was made a leaf
-pub record Fills (old new : Known) (leaf key value : ℕ) : Type 0 where
+pub record MakesLeaf (old new : Known) (leaf key value : ℕ) : Type 0 where
   pub is : new ≡ stored_in old new.view
   pub leaf_is : IsLeaf new.view leaf key value

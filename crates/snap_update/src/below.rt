@@ -1,11 +1,9 @@
 //! A write at a row below which the way of the key ends.
 ghost use Rattle.std.specs.Prelude.{◌≡◌, ◌<◌, ◌≤◌, ◌+◌, ◌^◌};
-ghost use Rattle.snap_prelude.specs.{Among, call_key, IsOf, IsPlace};
-ghost use Rattle.snap_prelude.specs.{link_field, NoLink, Nothing, On, Put};
+ghost use Rattle.snap_prelude.specs.{Among, call_key, IsLeafPlace, IsOf, link_field, NoLink, Nothing, On, Put};
 ghost use Rattle.snap_search.specs.Prelude.{EndsAbsent};
-ghost use Rattle.snap_update.specs.Answers.{FitsWord};
-ghost use Rattle.snap_update.specs.Attempts.{Attempts, RefusesOr};
-ghost use Rattle.snap_update.specs.Held.{Fills, IsAtWork};
+ghost use Rattle.snap_update.specs.{Answers.FitsWord, Attempts.Attempts, Attempts.RefusesOr, Held.IsAtWork};
+ghost use Rattle.snap_update.specs.{Held.MakesLeaf};
 
 use crate::attempt::Attempt;
 use crate::placed::{Gap, is_place};
@@ -62,7 +60,7 @@ fn hang<R: Wait>(rows: &Rows, rt: &R, pass: &mut Pass, gap: &Gap, pair: &Pair) -
     requires row { gap.now.at.row ≤ rows.now.rows }
     requires at_work { IsAtWork pass.old.view gap.now.at.row pair.now.key }
     requires epoch { Among gap.now.epoch pass.old.view.words.present }
-    requires place { IsPlace pass.old.view pair.now.key gap.now.at.row
+    requires place { IsLeafPlace pass.old.view pair.now.key gap.now.at.row
         (link_field gap.now.at.side) }
     requires way { pass.old.view.way.reads
         ≡ On pair.now.key (NoLink gap.now.at.row gap.now.at.stamp gap.now.at.side) }
@@ -88,7 +86,7 @@ fn fill(rows: &Rows, pass: &mut Pass, leaf: RowNo, pair: &Pair, epoch: u64)
     requires own { Among leaf pass.old.view.fresh.own }
     requires epoch { Among epoch pass.old.view.words.present }
     requires value { pair.now.value + 1 < 2 ^ 64 }
-    ensures { Fills pass.old pass.new leaf pair.now.key pair.now.value }
+    ensures { MakesLeaf pass.old pass.new leaf pair.now.key pair.now.value }
 {
     store_own(rows, pass, leaf, Field::Key, pair.key);
     store_own(rows, pass, leaf, Field::Birth, epoch);

@@ -1,9 +1,7 @@
 //! A write at a row that has the key.
 ghost use Rattle.snap_prelude.specs.{Among, call_key, IsOf};
 ghost use Rattle.snap_search.specs.Prelude.{EndsHere};
-ghost use Rattle.snap_update.specs.Answers.{FitsWord};
-ghost use Rattle.snap_update.specs.Attempts.{Attempts};
-ghost use Rattle.snap_update.specs.Held.{IsAtWork};
+ghost use Rattle.snap_update.specs.{Answers.FitsWord, Attempts.Attempts, Held.IsAtWork};
 
 use crate::attempt::Attempt;
 use crate::placed::live_stamp;

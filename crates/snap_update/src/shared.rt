@@ -1,8 +1,7 @@
 //! A write that comes to a row of an earlier epoch: it puts a copy in the row's place, and looks for its place again.
 ghost use Rattle.snap_search.specs.Prelude.{EndsShared};
 ghost use Rattle.snap_prelude.specs.{Among, IsOf};
-ghost use Rattle.snap_update.specs.Attempts.{Brings};
-ghost use Rattle.snap_update.specs.Held.{IsAtWork};
+ghost use Rattle.snap_update.specs.{Attempts.Brings, Held.IsAtWork};
 
 use crate::attempt::Attempt;
 use crate::placed::{Gap, is_place};

@@ -3,9 +3,8 @@
 ghost use Rattle.std.specs.Prelude.{◌≡◌, MatchResult};
 ghost use Rattle.snap_prelude.specs.{Among, call_key, IsOf};
 ghost use Rattle.snap_search.specs.Prelude.{EndsAt, IsWay, row_at};
-ghost use Rattle.snap_update.specs.Answers.{FitsWord, Writes, RefusedFull};
-ghost use Rattle.snap_update.specs.Attempts.{AttemptsAt, Tries};
-ghost use Rattle.snap_update.specs.Held.{IsAtWork, IsReady};
+ghost use Rattle.snap_update.specs.{Answers.FitsWord, Answers.RefusedFull, Answers.Writes, Attempts.AttemptsAt};
+ghost use Rattle.snap_update.specs.{Attempts.AttemptsWrite, Held.IsAtWork, Held.IsReady};
 
 use crate::attempt::Attempt;
 use crate::below::enter_below;
@@ -51,7 +50,7 @@ fn try_write<R: Wait>(rows: &Rows, rt: &R, pass: &mut Pass, call: &Call, way: &m
     requires table { IsOf pass.old rows.now }
     requires ready { IsReady pass.old.view (call_key call.now) }
     requires value { FitsWord call.now }
-    ensures tries { Tries rows.now.rows pass.old pass.new call.now result }
+    ensures tries { AttemptsWrite rows.now.rows pass.old pass.new call.now result }
     ensures way { IsWay rows.now.rows pass.new.view way.new }
 {
     let found = find_for_write(rows, rt, pass, key_of(call), way);

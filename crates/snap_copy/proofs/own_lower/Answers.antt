@@ -1,5 +1,4 @@
-use Rattle.std.proofs.Common.{ap, ◌∙◌}
-use Rattle.std.proofs.lemmas.Result.{MatchResult-weaker}
+use Rattle.std.proofs.{Common.◌∙◌, Common.ap, lemmas.Result.MatchResult-weaker}
 use Rattle.snap_copy.proofs.Lowering.{epoch_after, lacks_rows, owns_lower, place_after}
 use Rattle.snap_prelude.specs.{Known}
 use Rattle.snap_copy.proofs.own_lower.Goals as goal

@@ -1,6 +1,5 @@
 use Rattle.std.proofs.Common.{rules, ◌≡◌, ◌<◌, ℕ, Bool, true, false, MatchBool, subst}
-use Rattle.snap_repair.proofs.Inner.{worn_here}
-use Rattle.snap_repair.proofs.Mending.{read_looks}
+use Rattle.snap_repair.proofs.{Inner.worn_here, Mending.read_looks}
 use Rattle.snap_repair.specs.Answers.{FindsWorn}
 use Rattle.snap_prelude.specs.{Becomes, count_of, last_count, read, Stamp}
 use Rattle.snap_repair.proofs.held.is_worn_out.Goals as goal

@@ -14,4 +14,4 @@ aim-requires-clause-aims g c =
 
 pub returns : goal.returns
 returns g c =
-    let a = c.args.pass.now in let b = c.grip_of.new.pass in let d = c.may_aim.new.pass in let s = looks_on a b d c.grip_of.ensures.looks c.may_aim.ensures.looks in let e = c.aim.new.pass in let m = aims_mends d e c.args.spot.now.row c.in-Some.row.key c.aim.ensures in tries_after c.args.rows.now.rows a e c.settle.new.pass c.settle.result (mends_on a d e s.0.mends m.0) (m.1 ∙ s.1) c.settle.ensures
+    let a = c.args.pass.now in let b = c.grip_of.new.pass in let d = c.may_aim.new.pass in let s = looks_on a b d c.grip_of.ensures.looks c.may_aim.ensures.looks in let e = c.aim.new.pass in let m = aims_mends d e c.args.end.now.row c.in-Some.row.key c.aim.ensures in tries_after c.args.rows.now.rows a e c.settle.new.pass c.settle.result (mends_on a d e s.0.mends m.0) (m.1 ∙ s.1) c.settle.ensures

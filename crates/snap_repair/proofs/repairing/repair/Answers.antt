@@ -1,10 +1,6 @@
 use Rattle.std.proofs.Common.{◌≡◌, ◌∙◌, None, Option, Some, refl, rules, subst}
-use Rattle.snap_repair.proofs.Inner.{stops_to}
-use Rattle.snap_repair.proofs.Lifting.{mends_itself}
-use Rattle.snap_repair.proofs.Mending.{mends_on, mends_to}
-use Rattle.snap_repair.specs.Answers.{is_full, stops_full}
-use Rattle.snap_repair.specs.Mending.{MendsTo}
-use Rattle.snap_repair.specs.declared.answer.Repaired.{Repaired}
+use Rattle.snap_repair.proofs.{Inner.stops_to, Lifting.mends_itself, Mending.mends_on, Mending.mends_to}
+use Rattle.snap_repair.specs.{Answers.is_full, Answers.stops_full, Mending.MendsTo, declared.answer.Repaired.Repaired}
 use Rattle.snap_repair.proofs.repairing.repair.Goals as goal
 
 pub loop-init : goal.loop-init

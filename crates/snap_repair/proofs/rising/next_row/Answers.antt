@@ -1,9 +1,8 @@
-use Rattle.snap_repair.proofs.Inner.{mending_on}
-use Rattle.snap_repair.proofs.GoingUp.{goes_after, goes_by_way}
+use Rattle.snap_repair.proofs.{Inner.mending_on, GoingUp.goes_after, GoingUp.goes_by_way}
 use Rattle.snap_repair.proofs.rising.next_row.Goals as goal
 
 pub returns-in-Some-clause-goes : goal.returns-in-Some-clause-goes
-returns-in-Some-clause-goes g c = goes_by_way c.args.rows.now.rows c.args.pass.now c.near_row.new.pass c.args.key c.in-Some.spot c.near_row.ensures.looks c.in-Some.ensures.row
+returns-in-Some-clause-goes g c = goes_by_way c.args.rows.now.rows c.args.pass.now c.near_row.new.pass c.args.key c.in-Some.end c.near_row.ensures.looks c.in-Some.ensures.row
 
 pub find_to_repair-requires-clause-writing : goal.find_to_repair-requires-clause-writing
 find_to_repair-requires-clause-writing g c = (mending_on c.args.pass.now c.near_row.new.pass c.near_row.ensures.looks.0.mends c.requires.mending).writing

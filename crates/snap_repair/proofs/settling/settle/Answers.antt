@@ -1,8 +1,6 @@
 use Rattle.std.proofs.Common.{◌∙◌, rules}
-use Rattle.snap_repair.proofs.Inner.{stops_none, tries_after}
-use Rattle.snap_repair.proofs.Lifting.{look_settled}
-use Rattle.snap_repair.proofs.Mending.{mends_on}
-use Rattle.snap_repair.proofs.Lowering.{child_by, leans_by}
+use Rattle.snap_repair.proofs.{Inner.stops_none, Inner.tries_after, Lifting.look_settled, Mending.mends_on}
+use Rattle.snap_repair.proofs.{Lowering.child_by, Lowering.leans_by}
 use Rattle.snap_repair.proofs.settling.settle.Goals as goal
 
 pub tilt-requires-clause-leans : goal.tilt-requires-clause-leans

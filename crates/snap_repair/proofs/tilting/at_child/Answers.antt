@@ -2,11 +2,9 @@ use Rattle.std.proofs.Common.{Bool, ◌∙◌, sym, subst, rules, inl}
 use Rattle.snap_repair.proofs.Inner.{aims_mends, stops_none, stops_worn, tries_after, worn_after, worn_out}
 use Rattle.snap_repair.proofs.Lowering.{child_edge, higher_by, leans_looks}
 use Rattle.snap_repair.proofs.Mending.{edge_looks, grip_looks, looks_on, mends_on}
-use Rattle.snap_repair.specs.Answers.{FindsWorn, Turns}
+use Rattle.snap_repair.specs.{Answers.FindsWorn, Answers.Turns, Lowering.HasChildOn, Lowering.IsHigher}
 use Rattle.snap_prelude.specs.{Leans, other}
-use Rattle.snap_repair.specs.Lowering.{HasChild, IsHigher}
-use Rattle.snap_shape.specs.Grips.{IsTurning}
-use Rattle.snap_shape.specs.declared.grip.Turn.{Turn}
+use Rattle.snap_shape.specs.{Grips.IsTurning, declared.grip.Turn.Turn}
 use Rattle.snap_repair.proofs.tilting.at_child.Goals as goal
 
 pub returns-then-not-is_settled : goal.returns-then-not-is_settled
@@ -29,7 +27,7 @@ tilt_inner-requires-clause-leans g c =
 pub tilt_inner-requires-clause-inner : goal.tilt_inner-requires-clause-inner
 tilt_inner-requires-clause-inner g c =
     let d = c.look_at-look.new.pass in
-    subst (λ (t : Turn). IsHigher d.view t.raised.row (other t.side) × HasChild d.view t.raised.row (other t.side)) (sym c.turn_of-turn.ensures) (higher_by c.args.rows.now.rows d.view c.in-Some.lower.row c.look_at-look.result c.args.higher c.look_at-look.ensures.look (search rules))
+    subst (λ (t : Turn). IsHigher d.view t.raised.row (other t.side) × HasChildOn d.view t.raised.row (other t.side)) (sym c.turn_of-turn.ensures) (higher_by c.args.rows.now.rows d.view c.in-Some.lower.row c.look_at-look.result c.args.higher c.look_at-look.ensures.look (search rules))
 
 pub returns-then-inner-outer : goal.returns-then-inner-outer
 returns-then-inner-outer g c =

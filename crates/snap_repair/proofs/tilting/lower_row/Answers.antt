@@ -1,11 +1,8 @@
 use Rattle.std.proofs.Common.{sym, subst}
-use Rattle.snap_repair.proofs.Lifting.{looks_itself}
-use Rattle.snap_repair.proofs.Mending.{edge_looks}
+use Rattle.snap_repair.proofs.{Lifting.looks_itself, Mending.edge_looks}
 use Rattle.snap_repair.proofs.Raising.{above_edge, aims_lowered, aims_up, below_edge, turned_lowers, turned_mends, turns_looks}
 use Rattle.snap_repair.specs.Raising.{Heightens, RaisesFor}
-use Rattle.snap_shape.specs.Grips.{IsEdge, edge_at}
-use Rattle.snap_shape.specs.Shapes.{later}
-use Rattle.snap_shape.specs.declared.grip.Grip.{Grip}
+use Rattle.snap_shape.specs.{Grips.edge_at, Grips.IsEdge, Shapes.later, declared.grip.Grip.Grip}
 use Rattle.snap_prelude.specs.{Side}
 use Rattle.snap_repair.proofs.tilting.lower_row.Goals as goal
 

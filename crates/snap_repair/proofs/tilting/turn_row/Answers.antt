@@ -1,5 +1,4 @@
-use Rattle.snap_repair.proofs.Mending.{edge_looks}
-use Rattle.snap_repair.proofs.Raising.{lowers_after, near_looks}
+use Rattle.snap_repair.proofs.{Mending.edge_looks, Raising.lowers_after, Raising.near_looks}
 use Rattle.snap_repair.proofs.tilting.turn_row.Goals as goal
 
 pub lower_row-requires-clause-turn : goal.lower_row-requires-clause-turn

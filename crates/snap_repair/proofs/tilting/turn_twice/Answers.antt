@@ -1,12 +1,9 @@
 use Rattle.std.proofs.Common.{◌≡◌, ◌∙◌, ◌<◌, ℕ, Option, None, MatchOption, sym, subst, ap, rules, inr}
 use Rattle.snap_repair.proofs.Inner.{dropped_edge, mending_on, ready_again, rotation_mends, stops_none, stops_worn}
 use Rattle.snap_repair.proofs.Mending.{edge_looks, mends_on}
-use Rattle.snap_repair.specs.Answers.{IsWornOut}
-use Rattle.snap_repair.specs.Raising.{Lifts, TurnsNear}
-use Rattle.snap_shape.specs.Grips.{IsEdge, IsTurning, edge_at, turn_at}
-use Rattle.snap_shape.specs.Shapes.{Rotates, later}
-use Rattle.snap_shape.specs.declared.grip.Grip.{Grip}
-use Rattle.snap_shape.specs.declared.grip.Turn.{Turn}
+use Rattle.snap_repair.specs.{Answers.IsWornOut, Raising.Lifts, Raising.TurnsNear}
+use Rattle.snap_shape.specs.{Grips.edge_at, Grips.IsEdge, Grips.IsTurning, Grips.turn_at, Shapes.later, Shapes.Rotates}
+use Rattle.snap_shape.specs.{declared.grip.Grip.Grip, declared.grip.Turn.Turn}
 use Rattle.snap_prelude.specs.{count_of, last_count, other, Side}
 use Rattle.snap_repair.proofs.tilting.turn_twice.Goals as goal
 

@@ -1,7 +1,6 @@
 use Rattle.std.proofs.Common.{inl, inr}
-use Rattle.snap_repair.proofs.Inner.{worn_after, worn_out}
-use Rattle.snap_repair.proofs.Lowering.{higher_looks, leans_looks}
-use Rattle.snap_repair.proofs.Mending.{looks_on}
+use Rattle.snap_repair.proofs.{Inner.worn_after, Inner.worn_out, Lowering.higher_looks, Lowering.leans_looks}
+use Rattle.snap_repair.proofs.{Mending.looks_on}
 use Rattle.snap_prelude.specs.{link_field, other}
 use Rattle.snap_repair.proofs.tilting.worn_row.Goals as goal
 

@@ -1,12 +1,8 @@
 use Rattle.std.proofs.Common.{rules, ◌≡◌, ◌∙◌, ℕ, None, ap, subst, sym, []}
 use Rattle.snap_prelude.specs.{Call, call_key, NoLink, On, Put, Remove}
-use Rattle.snap_update.specs.Answers.{Writes}
-use Rattle.snap_update.specs.Attempts.{Attempts}
-use Rattle.snap_update.proofs.Entering.{confirms_here, writes_after}
-use Rattle.snap_update.proofs.Filling.{places}
-use Rattle.snap_update.proofs.Going.{goes_works}
-use Rattle.snap_update.proofs.Sharing.{looked}
-use Rattle.snap_update.proofs.Trying.{attempts_after}
+use Rattle.snap_update.specs.{Answers.Writes, Attempts.Attempts}
+use Rattle.snap_update.proofs.{Entering.confirms_here, Entering.writes_after, Filling.places, Going.goes_works}
+use Rattle.snap_update.proofs.{Sharing.looked, Trying.attempts_after}
 use Rattle.snap_update.proofs.below.enter_below.Goals as goal
 
 pub returns-then-load_word-ne0 : goal.returns-then-load_word-ne0

@@ -1,6 +1,5 @@
 use Rattle.snap_prelude.specs.{link_field}
-use Rattle.snap_update.proofs.Entering.{hangs}
-use Rattle.snap_update.proofs.Trying.{refuses_put}
+use Rattle.snap_update.proofs.{Entering.hangs, Trying.refuses_put}
 use Rattle.snap_update.proofs.below.hang.Goals as goal
 
 pub fill-requires-clause-row : goal.fill-requires-clause-row

@@ -1,12 +1,9 @@
 use Rattle.std.proofs.Common.{rules, ◌≡◌, ◌∙◌, ◌+◌, ap, subst, sym, [], ℕ, None, Option, add-one}
-use Rattle.snap_prelude.specs.{Becomes, Call, call_of, Key, Known}
-use Rattle.snap_prelude.specs.{Put, read, Remove, Value, value_of}
+use Rattle.snap_prelude.specs.{Becomes, Call, call_of, Key, Known, Put, read, Remove, Value, value_of}
 use Rattle.snap_search.specs.Prelude.{Works}
 use Rattle.snap_search.proofs.Working.{works_on, word_works}
-use Rattle.snap_update.specs.Answers.{Writes}
-use Rattle.snap_update.specs.Held.{IsStill}
-use Rattle.snap_update.proofs.Entering.{stores_here, confirms_here, writes_after}
-use Rattle.snap_update.proofs.Going.{goes_works}
+use Rattle.snap_update.specs.{Answers.Writes, Held.IsStill}
+use Rattle.snap_update.proofs.{Entering.confirms_here, Entering.stores_here, Entering.writes_after, Going.goes_works}
 use Rattle.snap_update.proofs.here.store_here.Goals as goal
 
 -- the loads before the entry

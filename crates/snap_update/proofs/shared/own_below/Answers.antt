@@ -1,7 +1,6 @@
 use Rattle.std.proofs.Common.{rules, arith, ◌≢◌, []}
 use Rattle.snap_copy.specs.declared.Wanted.{Wanted}
-use Rattle.snap_update.proofs.Going.{goes_works}
-use Rattle.snap_update.proofs.Sharing.{above, looked, brings_own, brings_none}
+use Rattle.snap_update.proofs.{Going.goes_works, Sharing.above, Sharing.brings_none, Sharing.brings_own, Sharing.looked}
 use Rattle.snap_update.proofs.shared.own_below.Goals as goal
 
 pub returns-then-load_word-eq0 : goal.returns-then-load_word-eq0

@@ -1,7 +1,6 @@
 use Rattle.snap_prelude.specs.{call_key}
-use Rattle.snap_update.proofs.Entering.{writes_after}
-use Rattle.snap_update.proofs.Going.{still_ready}
-use Rattle.snap_update.proofs.Trying.{begins, tries_on, refused_going}
+use Rattle.snap_update.proofs.{Entering.writes_after, Going.still_ready, Trying.begins, Trying.refused_going}
+use Rattle.snap_update.proofs.{Trying.tries_on}
 use Rattle.snap_update.proofs.writing.write.Goals as goal
 
 pub loop-init : goal.loop-init

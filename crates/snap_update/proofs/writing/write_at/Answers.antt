@@ -2,9 +2,8 @@ use Rattle.std.proofs.Common.{ℕ, ◌≤◌, ◌∙◌, sym, subst}
 use Rattle.snap_prelude.specs.{call_key}
 use Rattle.snap_search.specs.Prelude.{IsReached}
 use Rattle.snap_update.specs.Held.{IsAtWork}
-use Rattle.snap_update.proofs.Going.{at_work}
-use Rattle.snap_update.proofs.Holding.{held_once}
-use Rattle.snap_update.proofs.Trying.{attempts_at, ends_locked, place_low, place_reached, rests_at}
+use Rattle.snap_update.proofs.{Going.at_work, Holding.held_once, Trying.attempts_at, Trying.ends_locked}
+use Rattle.snap_update.proofs.{Trying.place_low, Trying.place_reached, Trying.rests_at}
 use Rattle.snap_update.proofs.writing.write_at.Goals as goal
 
 pub lock-requires-clause-row : goal.lock-requires-clause-row
