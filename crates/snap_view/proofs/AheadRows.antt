@@ -1,12 +1,11 @@
 -- The rows that lie ahead from a key on in an ordered tree: the last of them is the nearest, and behind it the way goes on below it.
 use Rattle.std.proofs.Common.{◌≡◌, ℕ, ◌+◌, ◌<◌, ◌≤◌, ◌⊎◌, Bool, true, false, cond, inl, inr, List, [], ◌∷◌, ◌++◌, length, Option, Some, None, max, refl, sym, ap, ◌∙◌, subst, arith, length-append, append_assoc}
 use Rattle.snap_prelude.proofs.Common.{child, le-leb, lt-leb}
-use Rattle.snap_prelude.specs.{Between, depth, empty, IsWithin, Left, Node}
+use Rattle.snap_prelude.specs.{Between, depth, empty, IsSubtree, Left, Node}
 use Rattle.snap_prelude.specs.{node, other, Right, root, Side, Toward, Tree}
-use Rattle.snap_view.specs.Ahead.{rows_ahead, Leads}
-use Rattle.snap_view.specs.Nearest.{reaches, IsBehind, turn, on, or_else, nearest_row}
-use Rattle.snap_view.specs.declared.ahead.Ahead.{Ahead}
-use Rattle.snap_view.specs.declared.ahead.RowsAhead.{RowsAhead}
+use Rattle.snap_view.specs.{Ahead.AddsAhead, Ahead.rows_ahead, Nearest.IsBehind, Nearest.nearer_or, Nearest.nearest_row}
+use Rattle.snap_view.specs.{Nearest.on, Nearest.reaches, Nearest.turn, declared.ahead.Ahead.Ahead}
+use Rattle.snap_view.specs.{declared.ahead.RowsAhead.RowsAhead}
 use Rattle.snap_view.proofs.Within.{within_itself}
 
 abbrev pub own : Side → Node → Tree → Tree → Ahead
@@ -34,7 +33,7 @@ none_ahead side from (node n a b) e = go (reaches side from n.key) refl (none_ah
     go : (r : Bool) → reaches side from n.key ≡ r → (rows_ahead side from a ≡ [] → nearest_row side from a ≡ None) → (rows_ahead side from b ≡ [] → nearest_row side from b ≡ None)
         → rows_ahead side from (node n a b) ≡ [] → nearest_row side from (node n a b) ≡ None
     go true is l r z = absurd (let q = rw is at z in cc q)
-    go false is l r z = rw is (ap (λ (o : Option (ℕ × Option ℕ)). or_else o None) (below side l r (rw is at z)))
+    go false is l r z = rw is (ap (λ (o : Option (ℕ × Option ℕ)). nearer_or o None) (below side l r (rw is at z)))
 
 -- the last of the rows ahead, which is the nearest, and what lies ahead behind it
 pub record Popped (side : Side) (from low high : ℕ) (t : Tree) (xs : List Ahead) (x : Ahead) : Type 0 where
@@ -42,7 +41,7 @@ pub record Popped (side : Side) (from low high : ℕ) (t : Tree) (xs : List Ahea
   pub low_key : low ≤ x.key
   pub high_key : x.key < high
   pub tree : Tree
-  pub within : IsWithin tree t
+  pub within : IsSubtree tree t
   pub at : root tree ≡ x.beyond
   pub same : (next : ℕ) → IsBehind side x.key (Some next) → rows_ahead side next t ≡ xs ++ rows_ahead side next tree
 
@@ -75,7 +74,7 @@ module _ (side : Side) (from low high : ℕ) (n : Node) (a b : Tree) (between : 
   child_ahead Left next = refl
   child_ahead Right next = refl
 
-  child_within : (d : Side) → IsWithin (child d a b) (node n a b)
+  child_within : (d : Side) → IsSubtree (child d a b) (node n a b)
   child_within Left = inr (inl (within_itself a))
   child_within Right = inr (inr (within_itself b))
 
@@ -86,7 +85,7 @@ module _ (side : Side) (from low high : ℕ) (n : Node) (a b : Tree) (between : 
     high_key : x.key < high
     toward : Toward d x.key n.key
     tree : Tree
-    within : IsWithin tree (node n a b)
+    within : IsSubtree tree (node n a b)
     at : root tree ≡ x.beyond
     same : (next : ℕ) → IsBehind side x.key (Some next) → on d (rows_ahead side next a) (rows_ahead side next b) ≡ xs ++ rows_ahead side next tree
 
@@ -99,7 +98,7 @@ module _ (side : Side) (from low high : ℕ) (n : Node) (a b : Tree) (between : 
       let first : own side n a b ≡ x = let q = rw is at e in cc q in
       let rest : on (other side) (rows_ahead side from a) (rows_ahead side from b) ≡ [] = let q = rw is at e in cc q in
       subst (λ (y : Ahead). Popped side from low high (node n a b) [] y) first (record {
-        row = rw is (ap (λ (o : Option (ℕ × Option ℕ)). or_else o (Some (n.key, n.value))) (none_on (other side) rest));
+        row = rw is (ap (λ (o : Option (ℕ × Option ℕ)). nearer_or o (Some (n.key, n.value))) (none_on (other side) rest));
         low_key = between.0;
         high_key = between.1;
         tree = child side a b;
@@ -111,7 +110,7 @@ module _ (side : Side) (from low high : ℕ) (n : Node) (a b : Tree) (between : 
       let first : own side n a b ≡ y = let q = rw is at e in cc q in
       let rest : on (other side) (rows_ahead side from a) (rows_ahead side from b) ≡ ys ++ (x ∷ []) = let q = rw is at e in cc q in
       let p = below (other side) l r ys x rest in record {
-        row = rw is (ap (λ (o : Option (ℕ × Option ℕ)). or_else o (Some (n.key, n.value))) p.row);
+        row = rw is (ap (λ (o : Option (ℕ × Option ℕ)). nearer_or o (Some (n.key, n.value))) p.row);
         low_key = p.low_key;
         high_key = p.high_key;
         tree = p.tree;
@@ -122,7 +121,7 @@ module _ (side : Side) (from low high : ℕ) (n : Node) (a b : Tree) (between : 
   pops_node false is l r xs x e =
       let rest : on side (rows_ahead side from a) (rows_ahead side from b) ≡ xs ++ (x ∷ []) = rw is at e in
       let p = below side l r xs x rest in record {
-        row = rw is (ap (λ (o : Option (ℕ × Option ℕ)). or_else o None) p.row);
+        row = rw is (ap (λ (o : Option (ℕ × Option ℕ)). nearer_or o None) p.row);
         low_key = p.low_key;
         high_key = p.high_key;
         tree = p.tree;
@@ -137,14 +136,14 @@ pops side from low high empty h (y ∷ ys) x e = absurd (cc e)
 pops side from low high (node n a b) h xs x e = pops_node side from low high n a b h (reaches side from n.key) refl (pops side from low n.key a h.2) (pops side from (n.key + 1) high b h.3) xs x e
 
 -- ways down that follow one another
-pub leads_none : (ahead : RowsAhead) → Leads ahead ahead []
+pub leads_none : (ahead : RowsAhead) → AddsAhead ahead ahead []
 leads_none ahead = record { kept = λ e. (e, sym (ended ahead.rows.items)); lost = λ e. inl e }
   where
     ended : (xs : List Ahead) → xs ++ [] ≡ xs
     ended [] = refl
     ended (x ∷ xs) = ap (λ (l : List Ahead). x ∷ l) (ended xs)
 
-pub leads_on : (a b c : RowsAhead) (xs ys : List Ahead) → Leads a b xs → Leads b c ys → Leads a c (xs ++ ys)
+pub leads_on : (a b c : RowsAhead) (xs ys : List Ahead) → AddsAhead a b xs → AddsAhead b c ys → AddsAhead a c (xs ++ ys)
 leads_on a b c xs ys f g = record {
   kept = λ e. let h = g.kept e in let i = f.kept h.0 in (i.0, h.1 ∙ ap (λ (l : List Ahead). l ++ ys) i.1 ∙ append_assoc a.rows.items xs ys);
   lost = λ e. go b.lost refl (g.lost e);

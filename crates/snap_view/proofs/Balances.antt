@@ -2,11 +2,9 @@
 use Rattle.std.proofs.Common.{◌≡◌, ◌≢◌, ℕ, zero, suc, ◌+◌, ◌*◌, ◌^◌, ◌<◌, ◌≤◌, ◌⊎◌, inl, inr, Option, Some, None, IsTrue, is_some, refl, sym, ap, subst, arith}
 use Rattle.std.proofs.lemmas.Grind.{pow_more}
 use Rattle.snap_prelude.proofs.Common.{dec_lt, depth_size, dite, least_more, least_size}
-use Rattle.snap_prelude.specs.{ArePlaced, Balance, depth, empty, HasValue, IsBalanced}
-use Rattle.snap_prelude.specs.{IsCaused, IsFull, IsSettledTree, IsWeighed, IsWithin, least}
-use Rattle.snap_prelude.specs.{node, root, RowCopy, RowsOut, Settled, size, StampOut, Tree}
-use Rattle.snap_view.specs.Balances.{IsHeightOf}
-use Rattle.snap_view.specs.Tops.{HasTop, HasTree}
+use Rattle.snap_prelude.specs.{ArePlaced, Balance, depth, empty, HasValue, IsBalanced, IsCaused, IsFull, IsSettledTree}
+use Rattle.snap_prelude.specs.{IsSubtree, IsWeighed, least, node, root, RowCopy, RowsOut, Settled, size, StampOut, Tree}
+use Rattle.snap_view.specs.{Balances.IsHeightOf, Tops.HasTop, Tops.HasTree}
 use Rattle.snap_view.proofs.Within.{within_below, within_each}
 
 -- a row that is known to keep the clone from being settled
@@ -28,9 +26,6 @@ pub few_levels : (t : Tree) → IsSettledTree t → size t < 2 ^ 32 → depth t 
 few_levels t h small = dite (dec_lt 64 (depth t))
     (λ l. absurd (omega (arith, least_power 32 (depth t) (omega arith), least_size t h (omega (arith, depth_size t)))))
     (λ nl. omega arith)
-
-pub no_height : (t : Tree) (levels : ℕ) → t ≡ empty → IsHeightOf t levels (Some 0)
-no_height t levels e = subst (λ (u : Tree). IsHeightOf u levels (Some 0)) (sym e) (tt, refl)
 
 -- a tree with this top
 module _ (t : Tree) (levels : ℕ) (copy : RowCopy) (top : HasTop t copy) where
@@ -83,14 +78,14 @@ module _ (t : Tree) (levels : ℕ) (copy : RowCopy) (top : HasTop t copy) where
 
 -- what is so of each tree within a whole one that stands at this row
 abbrev pub HeightAt : Tree → (row levels : ℕ) → Option ℕ → Type 0
-HeightAt whole row levels o = (t : Tree) → IsWithin t whole → root t ≡ row → IsHeightOf t levels o
+HeightAt whole row levels o = (t : Tree) → IsSubtree t whole → root t ≡ row → IsHeightOf t levels o
 
 abbrev pub TopAt : Tree → ℕ → RowCopy → Type 0
-TopAt whole row copy = (t : Tree) → IsWithin t whole → root t ≡ row → HasTop t copy
+TopAt whole row copy = (t : Tree) → IsSubtree t whole → root t ≡ row → HasTop t copy
 
-module _ (whole t : Tree) (copy : RowCopy) (within : IsWithin t whole) (top : HasTop t copy) where
-  abbrev below_top : IsWithin top.left whole × IsWithin top.right whole
-  below_top = within_below whole top.top top.left top.right (subst (λ (z : Tree). IsWithin z whole) top.is within)
+module _ (whole t : Tree) (copy : RowCopy) (within : IsSubtree t whole) (top : HasTop t copy) where
+  abbrev below_top : IsSubtree top.left whole × IsSubtree top.right whole
+  below_top = within_below whole top.top top.left top.right (subst (λ (z : Tree). IsSubtree z whole) top.is within)
 
   unfoldable pub has_left : HasTree whole copy.left
   has_left = record { tree = top.left; within = below_top.0; at = sym top.copied.left }

@@ -3,7 +3,7 @@ use Rattle.std.proofs.Common.{◌≡◌, ℕ, ◌+◌, ◌≤◌, ◌^◌, ◌�
 use Rattle.snap_prelude.proofs.Common.{le-leb, lt-leb}
 use Rattle.snap_prelude.specs.{Between, depth, empty, HasValue, IsFull, IsSettledTree}
 use Rattle.snap_prelude.specs.{Left, node, other, Right, Side, Toward, Tree}
-use Rattle.snap_view.specs.Nearest.{ReachesAll, reaches, IsBehind, on, or_else, nearest_row}
+use Rattle.snap_view.specs.Nearest.{ReachesAll, reaches, IsBehind, on, nearer_or, nearest_row}
 use Rattle.snap_view.proofs.Nearing.{reaches_tells, Stays, row_stays}
 
 -- it is a row with a value
@@ -11,7 +11,7 @@ abbrev pub IsValued : Option (ℕ × Option ℕ) → Type 0
 IsValued None = ⊥
 IsValued (Some p) = HasValue p.1
 
-valued_or : (o p : Option (ℕ × Option ℕ)) → IsValued o → IsValued (or_else o p)
+valued_or : (o p : Option (ℕ × Option ℕ)) → IsValued o → IsValued (nearer_or o p)
 valued_or None p v = absurd v
 valued_or (Some q) p v = v
 
@@ -83,14 +83,14 @@ after_blank side from next k low high (node n a b) h s e bh =
     at_top key none (inr f) = rw (missed side next n.key (behind_it side n.key next (subst (λ (x : ℕ). IsBehind side x (Some next)) (sym key) bh)))
         (valued_or (on side (nearest_row side next a) (nearest_row side next b)) None (full_side side refl key f))
 
-    reached : (o : Option (ℕ × Option ℕ)) → on (other side) (nearest_row side from a) (nearest_row side from b) ≡ o → or_else o (Some (n.key, n.value)) ≡ Some (k, None)
+    reached : (o : Option (ℕ × Option ℕ)) → on (other side) (nearest_row side from a) (nearest_row side from b) ≡ o → nearer_or o (Some (n.key, n.value)) ≡ Some (k, None)
         → (nearest_row side from a ≡ Some (k, None) → IsValued (nearest_row side next a)) → (nearest_row side from b ≡ Some (k, None) → IsValued (nearest_row side next b)) → IsValued (nearest_row side next (node n a b))
     reached None is e l r = at_top (ap (λ (x : Option (ℕ × Option ℕ)). (row_of x).0) e) (ap (λ (x : Option (ℕ × Option ℕ)). (row_of x).1) e) s.1
     reached (Some p) is e l r =
         let stays : Toward (other side) k n.key = subst (Stays n.key (other side)) (is ∙ e) (row_stays side from low high n a b h (other side)) in
         rw (inside side k n.key next stays bh) (valued_or (on (other side) (nearest_row side next a) (nearest_row side next b)) (Some (n.key, n.value)) (below (other side) l r (is ∙ e)))
 
-    not_reached : (o : Option (ℕ × Option ℕ)) → on side (nearest_row side from a) (nearest_row side from b) ≡ o → or_else o None ≡ Some (k, None)
+    not_reached : (o : Option (ℕ × Option ℕ)) → on side (nearest_row side from a) (nearest_row side from b) ≡ o → nearer_or o None ≡ Some (k, None)
         → (nearest_row side from a ≡ Some (k, None) → IsValued (nearest_row side next a)) → (nearest_row side from b ≡ Some (k, None) → IsValued (nearest_row side next b)) → IsValued (nearest_row side next (node n a b))
     not_reached None is e l r = absurd (let z : None ≡ Some (k, None) = e in cc z)
     not_reached (Some p) is e l r =

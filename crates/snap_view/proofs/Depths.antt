@@ -1,12 +1,12 @@
 -- The depth of a tree by those below its top.
 use Rattle.std.proofs.Common.{◌≡◌, ℕ, ◌+◌, ◌≤◌, max, Option, Some, None, ap, arith}
-use Rattle.snap_prelude.specs.{depth, IsWithin, root, RowCopy, Tree}
+use Rattle.snap_prelude.specs.{depth, IsSubtree, root, RowCopy, Tree}
 use Rattle.snap_view.specs.Tops.{HasTree, IsDepthOf}
 use Rattle.snap_view.proofs.Balances.{TopAt, has_left, has_right}
 
 -- what is so of each tree within a whole one that stands at this row
 abbrev pub DepthAt : Tree → (row levels : ℕ) → Option ℕ → Type 0
-DepthAt whole row levels o = (t : Tree) → IsWithin t whole → root t ≡ row → IsDepthOf t levels o
+DepthAt whole row levels o = (t : Tree) → IsSubtree t whole → root t ≡ row → IsDepthOf t levels o
 
 module _ (whole : Tree) (row levels : ℕ) (copy : RowCopy) (tops : TopAt whole row copy) where
   module _ (below : ℕ) (is : levels ≡ below + 1) where

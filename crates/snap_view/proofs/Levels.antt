@@ -2,7 +2,7 @@
 use Rattle.std.proofs.Common.{◌≡◌, ℕ, ◌+◌, ◌<◌, ◌≤◌, ◌^◌, max, true, false, leb, Option, Some, None, refl, sym, ap, ◌∙◌, subst, arith}
 use Rattle.snap_prelude.proofs.Common.{dec_lt, dite, le-leb, lt-leb}
 use Rattle.snap_prelude.specs.{Between, depth, empty, find, Left, Node, node, Right, Side, Tree}
-use Rattle.snap_view.specs.Nearest.{IsNearest, IsPast, turn, on, or_else, nearest_row, levels}
+use Rattle.snap_view.specs.Nearest.{IsNearest, IsBehindRow, turn, on, nearer_or, nearest_row, levels}
 use Rattle.snap_view.proofs.Nearing.{LiesIn, nearest_in, nearest_is}
 use Rattle.snap_view.proofs.Passing.{keys_ahead, fewer_ahead}
 
@@ -56,11 +56,11 @@ same_way from k low high (node n a b) h l u = dite (dec_lt n.key from)
     let v = kept (nearest_row Right from a) (nearest_in Right from low n.key a h.2) (rw g at u) in
     to_left n a b k v.0 ∙ ap (λ (x : ℕ). x + 1) (same_way from k low n.key a h.2 l v.1) ∙ sym (to_left n a b from (omega arith)))
   where
-    below : (o : Option (ℕ × Option ℕ)) → UpTo k (or_else o None) → UpTo k o
+    below : (o : Option (ℕ × Option ℕ)) → UpTo k (nearer_or o None) → UpTo k o
     below None w = tt
     below (Some p) w = w
 
-    kept : (o : Option (ℕ × Option ℕ)) → LiesIn low n.key o → UpTo k (or_else o (Some (n.key, n.value))) → (k ≤ n.key) × UpTo k o
+    kept : (o : Option (ℕ × Option ℕ)) → LiesIn low n.key o → UpTo k (nearer_or o (Some (n.key, n.value))) → (k ≤ n.key) × UpTo k o
     kept None i w = (w, tt)
     kept (Some p) i w = (omega (arith, i.1), w)
 
@@ -73,7 +73,7 @@ abbrev pub FitsKey : Option ℕ → Type 0
 FitsKey None = Unit {0}
 FitsKey (Some next) = next < 2 ^ 64
 
-past_fits : (row : Option (ℕ × Option ℕ)) (next : Option ℕ) → IsPast row next → FitsKey next
+past_fits : (row : Option (ℕ × Option ℕ)) (next : Option ℕ) → IsBehindRow row next → FitsKey next
 past_fits None next e = subst FitsKey (sym e) tt
 past_fits (Some p) None e = tt
 past_fits (Some p) (Some next) e = e.1
@@ -86,14 +86,14 @@ pub record HasSounded (t : Tree) (next : Option ℕ) (best : ℕ) : Type 0 where
 pub sounded_none : (t : Tree) → HasSounded t (Some 0) 0
 sounded_none t = record { fits = omega arith; least = omega arith; each = λ k l b. absurd (omega arith) }
 
-pub sounded_on : (t : Tree) → Between 0 (2 ^ 64) t → (from best level : ℕ) (row : Option (ℕ × Option ℕ)) (next : Option ℕ) → HasSounded t (Some from) best → row ≡ nearest_row Right from t → level ≡ levels Right from t → IsPast row next → HasSounded t next (max best level)
+pub sounded_on : (t : Tree) → Between 0 (2 ^ 64) t → (from best level : ℕ) (row : Option (ℕ × Option ℕ)) (next : Option ℕ) → HasSounded t (Some from) best → row ≡ nearest_row Right from t → level ≡ levels Right from t → IsBehindRow row next → HasSounded t next (max best level)
 sounded_on t h from best level row next s is counts past = record {
   fits = past_fits row next past;
   least = omega (arith, s.least, counts, levels_within Right from t);
   each = λ k l b. dite (dec_lt k from) (λ u. omega (arith, s.each k l u)) (λ nu. omega (arith, counts, same_way from k 0 (2 ^ 64) t h (omega arith) (subst (UpTo k) is (go row next past k l b))));
 }
   where
-    go : (o : Option (ℕ × Option ℕ)) (n : Option ℕ) → IsPast o n → (k : ℕ) → k < 2 ^ 64 → Before n k → UpTo k o
+    go : (o : Option (ℕ × Option ℕ)) (n : Option ℕ) → IsBehindRow o n → (k : ℕ) → k < 2 ^ 64 → Before n k → UpTo k o
     go None n e k l b = tt
     go (Some p) None e k l b = omega arith
     go (Some p) (Some m) e k l b = omega (arith, e.0)
@@ -103,6 +103,6 @@ sounded_all t h best s = dite (dec_lt 0 (depth t))
     (λ some. let d = deepest 0 (2 ^ 64) t h some in omega (arith, s.least, s.each d.from d.below tt, d.is))
     (λ none. omega (arith, s.least))
 
-pub sounds_fewer : (t : Tree) → Between 0 (2 ^ 64) t → (from : ℕ) (row : Option (ℕ × Option ℕ)) (next : Option ℕ) → from < 2 ^ 64 → row ≡ nearest_row Right from t → IsPast row next → keys_ahead Right next < keys_ahead Right (Some from)
+pub sounds_fewer : (t : Tree) → Between 0 (2 ^ 64) t → (from : ℕ) (row : Option (ℕ × Option ℕ)) (next : Option ℕ) → from < 2 ^ 64 → row ≡ nearest_row Right from t → IsBehindRow row next → keys_ahead Right next < keys_ahead Right (Some from)
 sounds_fewer t h from None next fits is past = rw past (omega arith)
 sounds_fewer t h from (Some p) next fits is past = fewer_ahead (find t) Right from p.0 p.1 next fits (subst (IsNearest (find t) Right from) (sym is) (nearest_is Right from 0 (2 ^ 64) t h)) past

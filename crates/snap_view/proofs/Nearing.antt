@@ -1,9 +1,8 @@
 -- The row of a tree that is nearest to a key, on one side of it.
 use Rattle.std.proofs.Common.{◌≡◌, ℕ, ◌+◌, ◌<◌, ◌≤◌, Bool, true, false, cond, Option, Some, None, inl, inr, ◌⊎◌, refl, sym, ◌∙◌, arith}
 use Rattle.snap_prelude.proofs.Common.{child, dec_lt, dite, find_here, find_toward, le-leb, lt-leb}
-use Rattle.snap_prelude.specs.{Between, empty, find, Left, Node, node}
-use Rattle.snap_prelude.specs.{other, Right, Side, Toward, Tree}
-use Rattle.snap_view.specs.Nearest.{Reaches, reaches, IsNearest, turn, on, or_else, nearest_row}
+use Rattle.snap_prelude.specs.{Between, empty, find, Left, Node, node, other, Right, Side, Toward, Tree}
+use Rattle.snap_view.specs.Nearest.{Reaches, reaches, IsNearest, turn, on, nearer_or, nearest_row}
 
 -- a key is `from` or lies on that side of it, or lies on the other
 pub reaches_tells : (side : Side) (from key : ℕ) → ((reaches side from key ≡ true) × Reaches side from key) ⊎ ((reaches side from key ≡ false) × Toward (other side) key from)
@@ -40,7 +39,7 @@ nearest_in side from low high (node n a b) h = go (on (turn side from n.key) (ne
     on_side Left l r = wider low low n.key high (nearest_row side from a) (omega arith) (omega (arith, h.1)) l
     on_side Right l r = wider (n.key + 1) low high high (nearest_row side from b) (omega (arith, h.0)) (omega arith) r
 
-    go : (o : Option (ℕ × Option ℕ)) → LiesIn low high o → (r : Bool) → LiesIn low high (or_else o (cond r (Some (n.key, n.value)) None))
+    go : (o : Option (ℕ × Option ℕ)) → LiesIn low high o → (r : Bool) → LiesIn low high (nearer_or o (cond r (Some (n.key, n.value)) None))
     go (Some p) i r = i
     go None i true = (h.0, h.1)
     go None i false = tt
@@ -74,7 +73,7 @@ nearest_is side from low high (node n a b) h = let left = nearest_is side from l
     below Left l r = l
     below Right l r = r
 
-    reached : Reaches side from n.key → (o : Option (ℕ × Option ℕ)) → IsNearest (find (child (other side) a b)) side from o → Stays n.key (other side) o → IsNearest (find (node n a b)) side from (or_else o (Some (n.key, n.value)))
+    reached : Reaches side from n.key → (o : Option (ℕ × Option ℕ)) → IsNearest (find (child (other side) a b)) side from o → Stays n.key (other side) o → IsNearest (find (node n a b)) side from (nearer_or o (Some (n.key, n.value)))
     reached r None near s = record {
       lies = r;
       is = find_here n a b n.key refl;
@@ -86,7 +85,7 @@ nearest_is side from low high (node n a b) h = let left = nearest_is side from l
       nearer = λ k l t. find_toward (other side) n a b k (before_it side k p.0 n.key s t) ∙ near.nearer k l t;
     }
 
-    not_reached : Toward (other side) n.key from → (o : Option (ℕ × Option ℕ)) → IsNearest (find (child side a b)) side from o → IsNearest (find (node n a b)) side from (or_else o None)
+    not_reached : Toward (other side) n.key from → (o : Option (ℕ × Option ℕ)) → IsNearest (find (child side a b)) side from o → IsNearest (find (node n a b)) side from (nearer_or o None)
     not_reached r None near = λ k l. find_toward side n a b k (past_it side n.key from k r l) ∙ near k l
     not_reached r (Some p) near = record {
       lies = near.lies;

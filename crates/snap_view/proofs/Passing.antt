@@ -28,10 +28,6 @@ either_side : (side : Side) (key k : ℕ) → Toward side key k ⊎ Reaches side
 either_side Left key k = dite (dec_lt key k) (λ l. inl l) (λ nl. inr (omega arith))
 either_side Right key k = dite (dec_lt k key) (λ l. inl l) (λ nl. inr (omega arith))
 
-further : (side : Side) (a b c : ℕ) → Reaches side a b → Reaches side b c → Reaches side a c
-further Left a b c l h = omega arith
-further Right a b c l h = omega arith
-
 module _ (has : ℕ → Option ℕ) (side : Side) (from key : ℕ) (passed : HasPassedTo has side from key) where
   -- up to a nearest key
   none_up_to : (row : ℕ) (value : Option ℕ) → IsNearestAt has side key row value → (k : ℕ) → Reaches side from k → Toward side row k → has k ≡ None

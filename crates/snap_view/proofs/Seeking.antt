@@ -1,13 +1,11 @@
 -- The way down a clone's tree.
 use Rattle.std.proofs.Common.{◌≡◌, ◌≢◌, ℕ, ◌+◌, ◌<◌, ◌≤◌, ◌^◌, Bool, true, false, Option, Some, None, refl, sym, ap, ◌∙◌, subst, arith, if◌then◌else◌}
-use Rattle.snap_prelude.specs.{after, at, Between, Cloned, depth, find, image, IsCloneOf, IsWithin}
+use Rattle.snap_prelude.specs.{after, at, Between, Cloned, depth, find, image, IsCloneOf, IsSubtree}
 use Rattle.snap_prelude.specs.{Left, Node, node, Pairs, Right, root, RowCopy, Side, size, Tree}
 use Rattle.snap_prelude.proofs.Common.{child, depth_size, find_at, find_here}
-use Rattle.snap_view.specs.Nearest.{reaches, IsNearest, turn, on, or_else, if_reached, nearest_row, levels}
-use Rattle.snap_view.specs.Tops.{HasTop, HasTree, IsTopOf, rows_read}
-use Rattle.snap_view.specs.declared.way.WayDown.{WayDown}
-use Rattle.snap_view.proofs.Levels.{levels_within}
-use Rattle.snap_view.proofs.Nearing.{nearest_is, same_nearest}
+use Rattle.snap_view.specs.Nearest.{reaches, IsNearest, turn, on, nearer_or, if_reached, nearest_row, levels}
+use Rattle.snap_view.specs.{Tops.HasTop, Tops.HasTree, Tops.IsTopOf, Tops.rows_read, declared.way.WayDown.WayDown}
+use Rattle.snap_view.proofs.{Levels.levels_within, Nearing.nearest_is, Nearing.same_nearest}
 use Rattle.snap_view.proofs.Within.{within_itself, levels_below, levels_are, next_tree, next_within, next_root, next_depth, next_find}
 
 -- the row below a copy on the way to the row nearest to `from`
@@ -16,12 +14,12 @@ next_row side from copy = on (turn side from copy.key) copy.left copy.right
 
 -- the top of each tree that stands at this row
 abbrev pub TopsAt : Tree → ℕ → Option RowCopy → Type 0
-TopsAt t row here = (u : Tree) → IsWithin u t → root u ≡ row → IsTopOf u here
+TopsAt t row here = (u : Tree) → IsSubtree u t → root u ≡ row → IsTopOf u here
 
 -- the search for the key goes on in a tree of which this is the top
 pub record Seeks (t : Tree) (key : ℕ) (here : Option RowCopy) (before now : ℕ) : Type 0 where
   pub tree : Tree
-  pub within : IsWithin tree t
+  pub within : IsSubtree tree t
   pub top : IsTopOf tree here
   pub same : find tree key ≡ find t key
   pub cost : now + depth tree ≤ before + depth t + rows_read here
@@ -29,9 +27,9 @@ pub record Seeks (t : Tree) (key : ℕ) (here : Option RowCopy) (before now : �
 -- the way to the row nearest to `from` goes on in a tree of which this is the top, and has passed so many rows
 pub record Descends (t : Tree) (side : Side) (from : ℕ) (here : Option RowCopy) (way : WayDown) (before now : ℕ) : Type 0 where
   pub tree : Tree
-  pub within : IsWithin tree t
+  pub within : IsSubtree tree t
   pub top : IsTopOf tree here
-  pub same : nearest_row side from t ≡ or_else (nearest_row side from tree) way.row
+  pub same : nearest_row side from t ≡ nearer_or (nearest_row side from tree) way.row
   pub passed : ℕ
   pub all : passed + levels side from tree ≡ levels side from t
   pub counted : way.levels ≡ passed
@@ -52,16 +50,16 @@ descends_from t side from here before now top read = record {
   cost = omega (arith, read);
 }
   where
-    go : (o : Option (ℕ × Option ℕ)) → o ≡ or_else o None
+    go : (o : Option (ℕ × Option ℕ)) → o ≡ nearer_or o None
     go None = refl
     go (Some p) = refl
 
 -- below a tree with this top
-module _ (t u : Tree) (within : IsWithin u t) (copy : RowCopy) (top : HasTop u copy) (side : Side) (from : ℕ) where
-  node_within : IsWithin (node top.top top.left top.right) t
-  node_within = subst (λ (z : Tree). IsWithin z t) top.is within
+module _ (t u : Tree) (within : IsSubtree u t) (copy : RowCopy) (top : HasTop u copy) (side : Side) (from : ℕ) where
+  node_within : IsSubtree (node top.top top.left top.right) t
+  node_within = subst (λ (z : Tree). IsSubtree z t) top.is within
 
-  pub below_within : IsWithin (next_tree side from top.top top.left top.right) t
+  pub below_within : IsSubtree (next_tree side from top.top top.left top.right) t
   below_within = next_within t top.top top.left top.right side from node_within
 
   pub below_root : root (next_tree side from top.top top.left top.right) ≡ next_row side from copy
@@ -103,9 +101,9 @@ descends_on t side from copy way way' before now next after_it s row counts tops
       tree = below;
       within = at;
       top = tops below at (below_root t s.tree s.within copy h side from);
-      same = s.same ∙ ap (λ (z : Tree). or_else (nearest_row side from z) way.row) h.is
-          ∙ ap (λ (o : Option (ℕ × Option ℕ)). or_else (or_else o (if_reached side from (n.key, n.value))) way.row) (sym (rows_on (turn side from n.key) h.left h.right))
-          ∙ or_assoc (nearest_row side from below) (if_reached side from (n.key, n.value)) way.row ∙ ap (or_else (nearest_row side from below)) (sym (row ∙ better h.copied.key h.copied.value));
+      same = s.same ∙ ap (λ (z : Tree). nearer_or (nearest_row side from z) way.row) h.is
+          ∙ ap (λ (o : Option (ℕ × Option ℕ)). nearer_or (nearer_or o (if_reached side from (n.key, n.value))) way.row) (sym (rows_on (turn side from n.key) h.left h.right))
+          ∙ or_assoc (nearest_row side from below) (if_reached side from (n.key, n.value)) way.row ∙ ap (nearer_or (nearest_row side from below)) (sym (row ∙ better h.copied.key h.copied.value));
       passed = s.passed + 1;
       all = omega (arith, s.all, ap (levels side from) h.is, levels_on (turn side from n.key) h.left h.right);
       counted = omega (arith, s.counted, counts);
@@ -120,21 +118,21 @@ descends_on t side from copy way way' before now next after_it s row counts tops
     levels_on Left a b = refl
     levels_on Right a b = refl
 
-    or_assoc : (x y z : Option (ℕ × Option ℕ)) → or_else (or_else x y) z ≡ or_else x (or_else y z)
+    or_assoc : (x y z : Option (ℕ × Option ℕ)) → nearer_or (nearer_or x y) z ≡ nearer_or x (nearer_or y z)
     or_assoc None y z = refl
     or_assoc (Some p) y z = refl
 
-    better : {k : ℕ} {v : Option ℕ} → copy.key ≡ k → copy.value ≡ v → (if reaches side from copy.key then Some (copy.key, copy.value) else way.row) ≡ or_else (if_reached side from (k, v)) way.row
+    better : {k : ℕ} {v : Option ℕ} → copy.key ≡ k → copy.value ≡ v → (if reaches side from copy.key then Some (copy.key, copy.value) else way.row) ≡ nearer_or (if_reached side from (k, v)) way.row
     better {k} {v} e f = (λ i. if reaches side from (e i) then Some (e i, f i) else way.row) ∙ go (reaches side from k)
       where
-        go : (b : Bool) → (if b then Some (k, v) else way.row) ≡ or_else (if b then Some (k, v) else None) way.row
+        go : (b : Bool) → (if b then Some (k, v) else way.row) ≡ nearer_or (if b then Some (k, v) else None) way.row
         go true = refl
         go false = refl
 
 pub descends_end : (t : Tree) (side : Side) (from : ℕ) (way : WayDown) (before now : ℕ) → Descends t side from None way before now → record { row : way.row ≡ nearest_row side from t; counts : way.levels ≡ levels side from t; cost : now ≡ before + levels side from t }
 descends_end t side from way before now s =
     let ends : levels side from s.tree ≡ 0 = ap (levels side from) s.top in record {
-      row = sym (s.same ∙ ap (λ (z : Tree). or_else (nearest_row side from z) way.row) s.top);
+      row = sym (s.same ∙ ap (λ (z : Tree). nearer_or (nearest_row side from z) way.row) s.top);
       counts = omega (arith, s.all, s.counted, ends);
       cost = omega (arith, s.all, s.cost, ends);
     }

@@ -1,8 +1,7 @@
 -- A clone has no more rows than were handed out, so words hold its counts.
 use Rattle.std.proofs.Common.{◌≡◌, ℕ, ◌*◌, ◌^◌, ◌<◌, ◌≤◌, ◌&&◌, not, nat_le, length, refl, ap, subst, arith}
 use Rattle.std.proofs.lemmas.List.Filters.{length-filter_both}
-use Rattle.snap_prelude.specs.{after, Cloned, count, depth, image}
-use Rattle.snap_prelude.specs.{IsSettledTree, Laid, least, Pairs, pairs, size}
+use Rattle.snap_prelude.specs.{after, Cloned, count, depth, image, IsSettledTree, Laid, least, Pairs, pairs, size}
 use Rattle.snap_prelude.proofs.Common.{depth_size, pairs_size, settled_shallow, size_full}
 use Rattle.snap_view.specs.Readable.{IsReadable}
 

@@ -1,10 +1,8 @@
 -- The steps of a walk through the pairs of a clone.
 use Rattle.std.proofs.Common.{◌≡◌, ℕ, ◌+◌, ◌^◌, arith, true, false, [], ◌∷◌, Option, Some, None, sym, ap, ◌∙◌, reverse}
 use Rattle.std.proofs.lemmas.Bool.{leb-true, leb-false}
-use Rattle.snap_prelude.specs.{after, at, Cloned, image, IsCloneOf}
-use Rattle.snap_prelude.specs.{Left, other, Pairs, range, Right, Side}
-use Rattle.snap_view.specs.Nearest.{IsBehind, IsNearestPair, reaches}
-use Rattle.snap_view.specs.Walked.{toward}
+use Rattle.snap_prelude.specs.{after, at, Cloned, image, IsCloneOf, Left, other, Pairs, range, Right, Side}
+use Rattle.snap_view.specs.{Nearest.IsBehind, Nearest.IsNearestPair, Nearest.reaches, Walks.toward}
 use Rattle.snap_view.proofs.Neighbours.{before_range, below_is, clone_rises, empty_above, empty_below, none_falling, none_rising, past_range, range_falls, range_rises}
 use Rattle.snap_view.proofs.Ranges.{Rise}
 

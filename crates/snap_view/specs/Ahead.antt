@@ -2,9 +2,12 @@
 -- which the way turns back.
 use Rattle.std.specs.Prelude.{◌≡◌, ℕ, ◌+◌, ◌<◌, ◌⊎◌, true, false, List, [], ◌∷◌, ◌++◌, length, Option, Some, None, if◌then◌else◌}
 use Rattle.snap_prelude.specs.{depth, empty, node, root, RowCopy, Side, Tree}
-use Rattle.snap_view.specs.Nearest.{reaches, turn, on, IsBehind}
-use Rattle.snap_view.specs.declared.ahead.Ahead.{Ahead}
-use Rattle.snap_view.specs.declared.ahead.RowsAhead.{RowsAhead}
+use Rattle.snap_view.specs.{Nearest.IsBehind, Nearest.on, Nearest.reaches, Nearest.turn, declared.ahead.Ahead.Ahead}
+use Rattle.snap_view.specs.{declared.ahead.RowsAhead.RowsAhead}
+
+-- a walk keeps no more rows than these
+abbrev pub most_levels : ℕ
+most_levels = 64
 
 abbrev pub if_ahead : Side → ℕ → Ahead → List Ahead
 if_ahead side from x = if reaches side from x.key then x ∷ [] else []
@@ -22,14 +25,14 @@ met side from copy = if_ahead side from
     (record { key = copy.key; value = copy.value; beyond = on side copy.left copy.right })
 
 -- so many rows were added, or they are lost, since they were too many
-pub record Leads (old new : RowsAhead) (more : List Ahead) : Type 0 where
+pub record AddsAhead (old new : RowsAhead) (more : List Ahead) : Type 0 where
   pub kept : new.lost ≡ false → (old.lost ≡ false) × (new.rows.items ≡ old.rows.items ++ more)
-  pub lost : new.lost ≡ true → (old.lost ≡ true) ⊎ (64 < length old.rows.items + length more)
+  pub lost : new.lost ≡ true → (old.lost ≡ true) ⊎ (most_levels < length old.rows.items + length more)
 
 -- the rows are those that lie ahead from this key on, and only in a deep tree they are lost
 pub record AreAhead (side : Side) (from : ℕ) (t : Tree) (ahead : RowsAhead) : Type 0 where
   pub kept : ahead.lost ≡ false → ahead.rows.items ≡ rows_ahead side from t
-  pub lost : ahead.lost ≡ true → 64 < depth t
+  pub lost : ahead.lost ≡ true → most_levels < depth t
 
 -- the same from a next key on, if there is one
 abbrev pub AreAheadOf : Side → Option ℕ → Tree → RowsAhead → Type 0

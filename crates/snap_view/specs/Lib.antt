@@ -1,7 +1,6 @@
 pub mod Readable
 pub mod Tops
 pub mod Nearest
-pub mod Walked
 pub mod Walks
 pub mod Balances
 pub mod Ahead

@@ -40,9 +40,9 @@ IsBehind Right key None = key + 1 ≡ 2 ^ 64
 IsBehind Right key (Some k) = (k ≡ key + 1) × (k < 2 ^ 64)
 
 -- the next key behind a row's, or none where there is no row
-abbrev pub IsPast : Option (ℕ × Option ℕ) → Option ℕ → Type 0
-IsPast None next = next ≡ None
-IsPast (Some p) next = IsBehind Right p.0 next
+abbrev pub IsBehindRow : Option (ℕ × Option ℕ) → Option ℕ → Type 0
+IsBehindRow None next = next ≡ None
+IsBehindRow (Some p) next = IsBehind Right p.0 next
 
 -- the way down a tree to the node nearest to `from` goes on from a node with this key on this side
 abbrev pub turn : Side → ℕ → ℕ → Side
@@ -52,9 +52,9 @@ abbrev pub on : {A : Type 0} → Side → A → A → A
 on Left a b = a
 on Right a b = b
 
-abbrev pub or_else : Option (ℕ × Option ℕ) → Option (ℕ × Option ℕ) → Option (ℕ × Option ℕ)
-or_else None p = p
-or_else (Some q) p = Some q
+abbrev pub nearer_or : Option (ℕ × Option ℕ) → Option (ℕ × Option ℕ) → Option (ℕ × Option ℕ)
+nearer_or None p = p
+nearer_or (Some q) p = Some q
 
 abbrev pub if_reached : Side → ℕ → ℕ × Option ℕ → Option (ℕ × Option ℕ)
 if_reached side from p = if reaches side from p.0 then Some p else None
@@ -62,7 +62,7 @@ if_reached side from p = if reaches side from p.0 then Some p else None
 -- that node's key and value
 abbrev pub nearest_row : Side → ℕ → Tree → Option (ℕ × Option ℕ)
 nearest_row side from empty = None
-nearest_row side from (node n a b) = or_else
+nearest_row side from (node n a b) = nearer_or
     (on (turn side from n.key) (nearest_row side from a) (nearest_row side from b))
     (if_reached side from (n.key, n.value))
 

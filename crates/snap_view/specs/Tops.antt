@@ -1,6 +1,6 @@
 -- Trees within a clone's, by the copies of their top rows.
 use Rattle.std.specs.Prelude.{◌≡◌, ℕ, ◌<◌, ◌≤◌, Option, Some, None}
-use Rattle.snap_prelude.specs.{depth, empty, IsCopyOf, IsWithin, Node, node, root, RowCopy, Tree}
+use Rattle.snap_prelude.specs.{depth, empty, IsCopyOf, IsSubtree, Node, node, root, RowCopy, Tree}
 
 -- the copy is of the top of the tree
 pub record HasTop (t : Tree) (copy : RowCopy) : Type 0 where
@@ -18,7 +18,7 @@ IsTopOf t (Some copy) = HasTop t copy
 -- a tree within t stands at this row, or an empty one where it is 0
 pub record HasTree (t : Tree) (row : ℕ) : Type 0 where
   pub tree : Tree
-  pub within : IsWithin tree t
+  pub within : IsSubtree tree t
   pub at : root tree ≡ row
 
 -- how many rows were read for it

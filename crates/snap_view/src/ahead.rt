@@ -1,6 +1,6 @@
 //! The rows that a walk has still to pass, as far as its last way down the tree has met them.
 ghost use Rattle.std.specs.Prelude.{◌≡◌, [], true, false};
-ghost use Rattle.snap_view.specs.Ahead.{Leads, met};
+ghost use Rattle.snap_view.specs.Ahead.{AddsAhead, met};
 
 use crate::way::{MOST_LEVELS, reaches};
 use arrayvec::ArrayVec;
@@ -53,7 +53,7 @@ impl RowsAhead {
 
     // Notes a row of a way down, if it lies ahead.
     pub fn meet(&mut self, copy: &RowCopy, side: Side, from: Key)
-        ensures { Leads self.old self.new (met side from copy.now) }
+        ensures { AddsAhead self.old self.new (met side from copy.now) }
     {
         if !reaches(side, from, copy.key) {
             return;

@@ -1,9 +1,7 @@
 //! Whether the tree of a clone is settled, and else what kept it from being so.
 ghost use Rattle.std.specs.Prelude.{◌≡◌, ◌≤◌, ◌<◌, ℕ, ◌↔◌, ◌⊎◌, ◌≢◌, IsTrue, true, false};
-ghost use Rattle.snap_prelude.specs.{HasValue, image, IsBalanced, IsSettledTree};
-ghost use Rattle.snap_prelude.specs.{IsWithin, root, StampOut, Tree};
-ghost use Rattle.snap_view.specs.Balances.{IsHeightOf, TellsBalance, with_out};
-ghost use Rattle.snap_view.specs.Tops.{HasTree};
+ghost use Rattle.snap_prelude.specs.{HasValue, image, IsBalanced, IsSettledTree, IsSubtree, root, StampOut, Tree};
+ghost use Rattle.snap_view.specs.{Balances.IsHeightOf, Balances.TellsBalance, Balances.with_out, Tops.HasTree};
 
 use crate::table_view::TableView;
 use crate::way::MOST_LEVELS;
@@ -75,7 +73,7 @@ impl<'t> TableView<'t> {
         steps: &mut Steps<L>,
     ) -> Option<u64>
         requires { HasTree (image self.old) row }
-        ensures height { (t : Tree) → IsWithin t (image self.old) → root t ≡ row
+        ensures height { (t : Tree) → IsSubtree t (image self.old) → root t ≡ row
             → IsHeightOf t levels result }
         ensures view { self.new ≡ self.old }
     {

@@ -1,9 +1,7 @@
 //! How many pairs a clone has in a range, and how deep its tree is.
 ghost use Rattle.std.specs.Prelude.{◌≡◌, ◌≤◌, ◌<◌, ◌*◌, ◌^◌, length};
-ghost use Rattle.snap_prelude.specs.{after, count, depth, image, IsSettledTree};
-ghost use Rattle.snap_prelude.specs.{IsWithin, least, Right, root, Tree};
-ghost use Rattle.snap_view.specs.Nearest.{IsPast, levels};
-ghost use Rattle.snap_view.specs.Tops.{HasTree, IsDepthOf};
+ghost use Rattle.snap_prelude.specs.{after, count, depth, image, IsSettledTree, IsSubtree, least, Right, root, Tree};
+ghost use Rattle.snap_view.specs.{Nearest.IsBehindRow, Nearest.levels, Tops.HasTree, Tops.IsDepthOf};
 
 use crate::table_view::TableView;
 use crate::way::{MOST_LEVELS, behind};
@@ -14,7 +12,7 @@ use std::sync::ledger::{Blank, Ledger};
 
 // The next key behind the row's, if there are both.
 fn past(row: Option<(Key, Option<u64>)>) -> Option<Key>
-    ensures { IsPast row result }
+    ensures { IsBehindRow row result }
 {
     match row {
         Some((key, _)) => behind(Side::Right, key),
@@ -75,7 +73,7 @@ impl<'t> TableView<'t> {
         requires name { blank.name ≡ L.name }
         requires parts { blank.parts ≡ L.parts }
         requires some { 0 < blank.parts }
-        ensures depth { IsDepthOf (image self.old) 64 result }
+        ensures depth { IsDepthOf (image self.old) MOST_LEVELS result }
         ensures view { self.new ≡ self.old }
     {
         let mut steps = Steps::<L>::new(blank);
@@ -86,7 +84,7 @@ impl<'t> TableView<'t> {
     // The depth of the tree that stands at this row, where it has no more levels than these.
     fn depth_at<L: Ledger>(&mut self, row: RowNo, levels: u32, steps: &mut Steps<L>) -> Option<u32>
         requires { HasTree (image self.old) row }
-        ensures depth { (t : Tree) → IsWithin t (image self.old) → root t ≡ row
+        ensures depth { (t : Tree) → IsSubtree t (image self.old) → root t ≡ row
             → IsDepthOf t levels result }
         ensures view { self.new ≡ self.old }
     {

@@ -1,9 +1,8 @@
 //! Passing the rows of a clone one after another toward one side, with the rows ahead at hand.
 ghost use Rattle.std.specs.Prelude.{◌≡◌, ◌<◌};
-ghost use Rattle.snap_prelude.specs.{after, at, image, IsCloneOf, IsWithin, root, Tree};
-ghost use Rattle.snap_view.specs.Ahead.{rows_ahead, Leads, AreAhead, ArePassed};
-ghost use Rattle.snap_view.specs.Nearest.{IsNearest, IsNearestPair};
-ghost use Rattle.snap_view.specs.Tops.{HasTree};
+ghost use Rattle.snap_prelude.specs.{after, at, image, IsCloneOf, IsSubtree, root, Tree};
+ghost use Rattle.snap_view.specs.{Ahead.AddsAhead, Ahead.AreAhead, Ahead.ArePassed, Ahead.rows_ahead};
+ghost use Rattle.snap_view.specs.{Nearest.IsNearest, Nearest.IsNearestPair, Tops.HasTree};
 
 use crate::ahead::RowsAhead;
 use crate::table_view::TableView;
@@ -23,8 +22,8 @@ impl<'t> TableView<'t> {
         steps: &mut Steps<L>,
     )
         requires { HasTree (image self.old) row }
-        ensures ahead { (t : Tree) → IsWithin t (image self.old) → root t ≡ row
-            → Leads ahead.old ahead.new (rows_ahead side from t) }
+        ensures ahead { (t : Tree) → IsSubtree t (image self.old) → root t ≡ row
+            → AddsAhead ahead.old ahead.new (rows_ahead side from t) }
         ensures view { self.new ≡ self.old }
     {
         let _rows = self.rows;

@@ -3,11 +3,9 @@
 #![tactic(auto)]
 
 mod ahead;
-mod ascend;
 mod balance;
 mod counted;
 mod counting;
-mod descend;
 mod going;
 mod nearest;
 mod ordered;
@@ -15,7 +13,6 @@ mod table_view;
 mod walk;
 mod way;
 
-pub use ascend::Ascend;
 pub use balance::Settled;
-pub use descend::Descend;
 pub use table_view::TableView;
+pub use walk::Walk;

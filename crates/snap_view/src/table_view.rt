@@ -1,13 +1,8 @@
 //! A clone, the value at a key, and its pairs.
 ghost use Rattle.std.specs.Prelude.{◌≡◌, ◌≤◌, ◌<◌, ◌+◌, reverse};
-ghost use Rattle.snap_prelude.specs.{after, at, depth, image, IsCloneOf};
-ghost use Rattle.snap_prelude.specs.{IsWithin, range, root, Tree};
-ghost use Rattle.snap_view.specs.Readable.{IsReadable};
-ghost use Rattle.snap_view.specs.Walks.{pairs_left, falling_left};
-ghost use Rattle.snap_view.specs.Tops.{HasTree, IsTopOf, rows_read};
+ghost use Rattle.snap_prelude.specs.{after, at, depth, image, IsCloneOf, IsSubtree, range, root, Tree};
+ghost use Rattle.snap_view.specs.{Readable.IsReadable, Walks.pairs_left, Tops.HasTree, Tops.IsTopOf, Tops.rows_read};
 
-use crate::ascend::Ascend;
-use crate::descend::Descend;
 use crate::walk::Walk;
 use crate::way::below;
 use snap_stamp::{Key, RowNo, Side};
@@ -70,7 +65,7 @@ impl<'t> TableView<'t> {
     // The top of the tree that stands at this row, none where there is no row.
     pub(crate) fn row_at<L: Ledger>(&mut self, row: RowNo, steps: &mut Steps<L>) -> Option<RowCopy>
         requires { HasTree (image self.old) row }
-        ensures top { (t : Tree) → IsWithin t (image self.old) → root t ≡ row → IsTopOf t result }
+        ensures top { (t : Tree) → IsSubtree t (image self.old) → root t ≡ row → IsTopOf t result }
         ensures view { self.new ≡ self.old }
         ensures steps { steps.new ≡ steps.old + rows_read result }
     {
@@ -127,25 +122,23 @@ impl<'t> TableView<'t> {
     }
 
     /// The pairs whose keys lie from `low` to `high`, by rising keys.
-    pub fn range(&mut self, low: Key, high: Key) -> Ascend<'t>
+    pub fn range(&mut self, low: Key, high: Key) -> Walk<'t>
         ensures pairs { pairs_left result ≡ range (after self.old.base) low high }
         ensures view { self.new ≡ self.old }
     {
-        let walk = Walk::begin(self.twin(), Side::Right, low, high);
-        Ascend { walk }
+        Walk::begin(self.twin(), Side::Right, low, high)
     }
 
     /// The pairs whose keys lie from `low` to `high`, by falling keys.
-    pub fn range_down(&mut self, low: Key, high: Key) -> Descend<'t>
-        ensures pairs { falling_left result ≡ reverse (range (after self.old.base) low high) }
+    pub fn range_down(&mut self, low: Key, high: Key) -> Walk<'t>
+        ensures pairs { pairs_left result ≡ reverse (range (after self.old.base) low high) }
         ensures view { self.new ≡ self.old }
     {
-        let walk = Walk::begin(self.twin(), Side::Left, high, low);
-        Descend { walk }
+        Walk::begin(self.twin(), Side::Left, high, low)
     }
 
     /// All pairs, by rising keys.
-    pub fn pairs(&mut self) -> Ascend<'t>
+    pub fn pairs(&mut self) -> Walk<'t>
         ensures pairs { pairs_left result ≡ after self.old.base }
         ensures view { self.new ≡ self.old }
     {

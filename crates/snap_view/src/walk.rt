@@ -1,7 +1,6 @@
-//! A walk through the pairs of a clone toward one side.
-ghost use Rattle.std.specs.Prelude.{◌≡◌};
-ghost use Rattle.std.specs.Iterator.{YieldsFirst};
-ghost use Rattle.snap_view.specs.Walked.{begun, left};
+//! The pairs of a clone, one after another, by rising or by falling keys.
+ghost use Rattle.std.specs.{Prelude.◌≡◌, Iterator.item_count, Iterator.YieldsFirst};
+ghost use Rattle.snap_view.specs.Walks.{begun, pairs_left};
 
 use crate::ahead::RowsAhead;
 use crate::table_view::TableView;
@@ -10,7 +9,8 @@ use snap_stamp::{Key, Side};
 use std::marker::{Brand, Model};
 use std::sync::ledger::Blank;
 
-// The pairs from the next key on, toward the side and up to the bound, by the rows ahead of it.
+/// The pairs of a clone whose keys lie in a range, toward one side. In a tree of at most 64 levels each row is read once
+/// on the way through them; in a deeper one each pair may be looked for from the clone's root.
 #[derive(Drop)]
 pub struct Walk<'t> {
     view: TableView<'t>,
@@ -23,7 +23,7 @@ pub struct Walk<'t> {
 impl<'t> Model for Walk<'t> {
     ghost use Rattle.snap_prelude.specs.{image};
     ghost use Rattle.snap_view.specs.Ahead.{AreAheadOf};
-    ghost use Rattle.snap_view.specs.Walked.{Walked};
+    ghost use Rattle.snap_view.specs.Walks.{Walked};
 
     ghost Value = { Walked };
 
@@ -34,7 +34,7 @@ impl<'t> Model for Walk<'t> {
 
 impl<'t> Walk<'t> {
     // The pairs of the view from this key on. It goes down once.
-    pub fn begin(mut view: TableView<'t>, side: Side, from: Key, bound: Key) -> Walk<'t>
+    pub(crate) fn begin(mut view: TableView<'t>, side: Side, from: Key, bound: Key) -> Walk<'t>
         ensures { result ≡ begun view.entry side from bound }
     {
         let ahead = view.rows_from::<Brand>(Blank::new(1), side, from);
@@ -46,11 +46,16 @@ impl<'t> Walk<'t> {
             ahead,
         }
     }
+}
 
-    // The next pair, if one is left.
-    pub fn next_pair(&mut self) -> Option<(Key, u64)>
-        ensures { YieldsFirst left self.old result self.new }
-    {
+impl<'t> Iterator for Walk<'t> {
+    type Item = (Key, u64);
+
+    ghost next_gives = { YieldsFirst pairs_left };
+
+    ghost remaining = { item_count pairs_left };
+
+    fn next(&mut self) -> Option<(Key, u64)> {
         let from = self.next?;
         let found = self
             .view

@@ -1,7 +1,6 @@
 use Rattle.std.proofs.Common.{ℕ, ap, arith, length}
 use Rattle.snap_prelude.specs.{after, Cloned, count}
-use Rattle.snap_view.proofs.Sizes.{count_low}
-use Rattle.snap_view.proofs.Counts.{counted_on}
+use Rattle.snap_view.proofs.{Sizes.count_low, Counts.counted_on}
 use Rattle.snap_view.proofs.table_view.TableView.count.Goals as goal
 
 pub loop-preserved : goal.loop-preserved

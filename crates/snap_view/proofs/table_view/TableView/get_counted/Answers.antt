@@ -1,5 +1,5 @@
 use Rattle.std.proofs.Common.{◌∙◌, ◌<◌, ◌^◌, Option, sym, subst}
-use Rattle.snap_prelude.specs.{Cloned, image, IsWithin, Right, RowCopy, Tree}
+use Rattle.snap_prelude.specs.{Cloned, image, IsSubtree, Right, RowCopy, Tree}
 use Rattle.snap_view.specs.Tops.{HasTree}
 use Rattle.snap_view.proofs.Seeking.{Seeks, next_row, TopsAt, seeks_from, seeks_on, seeks_found, seeks_none, has_next, next_fewer, value_told}
 use Rattle.snap_view.proofs.Within.{levels_below}
@@ -31,14 +31,14 @@ pub loop-here-smaller : goal.loop-here-smaller
 loop-here-smaller g c =
     let t : Tree = image c.args.self.now in
     let s = subst (λ (h : Option RowCopy). Seeks t c.args.key h c.args.steps.now c.loop-here.steps) c.in-Some.is c.loop-here.invariant.1 in
-    let tops : TopsAt t (next_row Right c.args.key c.in-Some.copy) c.row_at-here.result = λ u w z. c.row_at-here.ensures.top u (subst (λ (k : Cloned). IsWithin u (image k)) (sym c.loop-here.invariant.0) w) (z ∙ sym c.below.ensures) in
+    let tops : TopsAt t (next_row Right c.args.key c.in-Some.copy) c.row_at-here.result = λ u w z. c.row_at-here.ensures.top u (subst (λ (k : Cloned). IsSubtree u (image k)) (sym c.loop-here.invariant.0) w) (z ∙ sym c.below.ensures) in
     subst (λ (h : Option RowCopy). levels_below t c.row_at-here.result < levels_below t h) (sym c.in-Some.is) (next_fewer t s.tree s.within c.in-Some.copy s.top Right c.args.key 0 (2 ^ 64) c.row_at-here.result c.top-here.ensures.clone.ordered tops)
 
 pub loop-here-preserved : goal.loop-here-preserved
 loop-here-preserved g c =
     let t : Tree = image c.args.self.now in
     let s = subst (λ (h : Option RowCopy). Seeks t c.args.key h c.args.steps.now c.loop-here.steps) c.in-Some.is c.loop-here.invariant.1 in
-    let tops : TopsAt t (next_row Right c.args.key c.in-Some.copy) c.row_at-here.result = λ u w z. c.row_at-here.ensures.top u (subst (λ (k : Cloned). IsWithin u (image k)) (sym c.loop-here.invariant.0) w) (z ∙ sym c.below.ensures) in
+    let tops : TopsAt t (next_row Right c.args.key c.in-Some.copy) c.row_at-here.result = λ u w z. c.row_at-here.ensures.top u (subst (λ (k : Cloned). IsSubtree u (image k)) (sym c.loop-here.invariant.0) w) (z ∙ sym c.below.ensures) in
     (c.row_at-here.ensures.view ∙ c.loop-here.invariant.0, seeks_on t c.args.key c.in-Some.copy c.args.steps.now c.loop-here.steps c.row_at-here.result c.row_at-here.new.steps s c.if-copy-key.false tops c.row_at-here.ensures.steps)
 
 pub returns-clause-value : goal.returns-clause-value

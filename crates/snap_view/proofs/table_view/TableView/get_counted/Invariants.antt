@@ -1,7 +1,6 @@
 use Rattle.std.proofs.Common.{◌≡◌}
 use Rattle.snap_prelude.specs.{image}
-use Rattle.snap_view.proofs.Seeking.{Seeks}
-use Rattle.snap_view.proofs.Within.{levels_below}
+use Rattle.snap_view.proofs.{Seeking.Seeks, Within.levels_below}
 use Rattle.snap_view.proofs.table_view.TableView.get_counted.Given as goal
 
 -- the key is still looked for below here

@@ -1,7 +1,6 @@
 use Rattle.std.proofs.Common.{◌≡◌, ◌^◌, ◌<◌, Bool, IsTrue, sym, subst, arith}
 use Rattle.snap_prelude.specs.{Cloned, image, IsSettledTree, root, size, Tree}
-use Rattle.snap_view.proofs.Balances.{found_tells}
-use Rattle.snap_view.proofs.Within.{within_itself}
+use Rattle.snap_view.proofs.{Balances.found_tells, Within.within_itself}
 use Rattle.snap_view.proofs.table_view.TableView.is_settled.Goals as goal
 
 pub returns-clause-settled : goal.returns-clause-settled

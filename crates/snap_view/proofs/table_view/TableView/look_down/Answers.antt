@@ -1,9 +1,8 @@
 use Rattle.std.proofs.Common.{◌∙◌, ◌<◌, ◌^◌, Option, sym, subst}
-use Rattle.snap_prelude.specs.{Between, Cloned, image, IsWithin, RowCopy, Tree}
+use Rattle.snap_prelude.specs.{Between, Cloned, image, IsSubtree, RowCopy, Tree}
 use Rattle.snap_view.specs.Tops.{HasTree}
-use Rattle.snap_view.proofs.Looking.{MeetsAt, meets_from, meets_on, meets_end}
-use Rattle.snap_view.proofs.Seeking.{next_row, TopsAt, has_next, next_fewer}
-use Rattle.snap_view.proofs.Within.{levels_below}
+use Rattle.snap_view.proofs.{Looking.meets_end, Looking.meets_from, Looking.meets_on, Looking.MeetsAt, Seeking.has_next}
+use Rattle.snap_view.proofs.{Seeking.next_fewer, Seeking.next_row, Seeking.TopsAt, Within.levels_below}
 use Rattle.snap_view.proofs.table_view.TableView.look_down.Goals as goal
 
 pub loop-here-init : goal.loop-here-init
@@ -23,14 +22,14 @@ loop-here-smaller g c =
     let m = subst (λ (h : Option RowCopy). MeetsAt t c.args.row c.args.side c.args.from h c.args.ahead.now c.loop-here.ahead) c.in-Some.is c.loop-here.invariant.1 in
     let s = m r.tree r.within r.at in
     let ordered = subst (λ (k : Cloned). Between 0 (2 ^ 64) (image k)) c.self.view_is c.self.invariant.clone.ordered in
-    let tops : TopsAt t (next_row c.args.side c.args.from c.in-Some.copy) c.row_at-here-in-Some.result = λ u w z. c.row_at-here-in-Some.ensures.top u (subst (λ (k : Cloned). IsWithin u (image k)) (sym c.loop-here.invariant.0) w) (z ∙ sym c.below.ensures) in
+    let tops : TopsAt t (next_row c.args.side c.args.from c.in-Some.copy) c.row_at-here-in-Some.result = λ u w z. c.row_at-here-in-Some.ensures.top u (subst (λ (k : Cloned). IsSubtree u (image k)) (sym c.loop-here.invariant.0) w) (z ∙ sym c.below.ensures) in
     subst (λ (h : Option RowCopy). levels_below t c.row_at-here-in-Some.result < levels_below t h) (sym c.in-Some.is) (next_fewer t s.tree s.within c.in-Some.copy s.top c.args.side c.args.from 0 (2 ^ 64) c.row_at-here-in-Some.result ordered tops)
 
 pub loop-here-preserved : goal.loop-here-preserved
 loop-here-preserved g c =
     let t : Tree = image c.args.self.now in
     let m = subst (λ (h : Option RowCopy). MeetsAt t c.args.row c.args.side c.args.from h c.args.ahead.now c.loop-here.ahead) c.in-Some.is c.loop-here.invariant.1 in
-    let tops : TopsAt t (next_row c.args.side c.args.from c.in-Some.copy) c.row_at-here-in-Some.result = λ u w z. c.row_at-here-in-Some.ensures.top u (subst (λ (k : Cloned). IsWithin u (image k)) (sym c.loop-here.invariant.0) w) (z ∙ sym c.below.ensures) in
+    let tops : TopsAt t (next_row c.args.side c.args.from c.in-Some.copy) c.row_at-here-in-Some.result = λ u w z. c.row_at-here-in-Some.ensures.top u (subst (λ (k : Cloned). IsSubtree u (image k)) (sym c.loop-here.invariant.0) w) (z ∙ sym c.below.ensures) in
     (c.row_at-here-in-Some.ensures.view ∙ c.loop-here.invariant.0, meets_on t c.args.row c.args.side c.args.from c.in-Some.copy c.row_at-here-in-Some.result c.args.ahead.now c.loop-here.ahead c.meet.new.self m c.meet.ensures tops)
 
 pub returns-clause-ahead : goal.returns-clause-ahead

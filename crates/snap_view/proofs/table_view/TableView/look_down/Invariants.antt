@@ -1,7 +1,6 @@
 use Rattle.std.proofs.Common.{◌≡◌}
 use Rattle.snap_prelude.specs.{image}
-use Rattle.snap_view.proofs.Looking.{MeetsAt}
-use Rattle.snap_view.proofs.Within.{levels_below}
+use Rattle.snap_view.proofs.{Looking.MeetsAt, Within.levels_below}
 use Rattle.snap_view.proofs.table_view.TableView.look_down.Given as goal
 
 -- the way goes on below here, and has noted the rows ahead on it

@@ -1,7 +1,6 @@
 use Rattle.std.proofs.Common.{arith}
 use Rattle.snap_prelude.specs.{image}
-use Rattle.snap_view.proofs.Seeking.{nearest_told}
-use Rattle.snap_view.proofs.Levels.{levels_within}
+use Rattle.snap_view.proofs.{Seeking.nearest_told, Levels.levels_within}
 use Rattle.snap_view.proofs.table_view.TableView.nearest.Goals as goal
 
 pub returns-clause-nearest : goal.returns-clause-nearest

@@ -1,7 +1,6 @@
 use Rattle.std.proofs.Common.{◌≡◌}
 use Rattle.snap_prelude.specs.{after, at, image}
-use Rattle.snap_view.proofs.Blanks.{HasSpent}
-use Rattle.snap_view.proofs.Passing.{HasPassed, keys_ahead}
+use Rattle.snap_view.proofs.{Blanks.HasSpent, Passing.HasPassed, Passing.keys_ahead}
 use Rattle.snap_view.proofs.table_view.TableView.nearest_pair.Given as goal
 
 -- no pair stands before the next key, and one way down at most was gone

@@ -1,7 +1,6 @@
 use Rattle.std.proofs.Common.{◌∙◌, ◌<◌, ℕ, Option, Some, refl, sym, subst}
 use Rattle.snap_prelude.specs.{after, at, Cloned, image}
-use Rattle.snap_view.specs.Ahead.{AreAheadOf, ArePassed}
-use Rattle.snap_view.specs.Nearest.{IsNearest}
+use Rattle.snap_view.specs.{Ahead.AreAheadOf, Ahead.ArePassed, Nearest.IsNearest}
 use Rattle.snap_view.proofs.Passing.{HasPassed, keys_ahead, passed_none, passed_on, fewer_ahead}
 use Rattle.snap_view.proofs.table_view.TableView.next_pair.Goals as goal
 

@@ -1,7 +1,6 @@
 use Rattle.std.proofs.Common.{◌∙◌, ◌^◌, subst}
 use Rattle.snap_prelude.specs.{after, Cloned}
-use Rattle.snap_view.proofs.Neighbours.{clone_rises, whole_range}
-use Rattle.snap_view.proofs.Ranges.{Rise}
+use Rattle.snap_view.proofs.{Neighbours.clone_rises, Neighbours.whole_range, Ranges.Rise}
 use Rattle.snap_view.proofs.table_view.TableView.pairs.Goals as goal
 
 pub returns-clause-pairs : goal.returns-clause-pairs

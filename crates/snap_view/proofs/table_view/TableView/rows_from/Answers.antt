@@ -1,7 +1,6 @@
 use Rattle.std.proofs.Common.{◌≡◌, sym, subst}
 use Rattle.snap_prelude.specs.{Cloned, image, root, Tree}
-use Rattle.snap_view.proofs.Looking.{first_ahead}
-use Rattle.snap_view.proofs.Within.{within_itself}
+use Rattle.snap_view.proofs.{Looking.first_ahead, Within.within_itself}
 use Rattle.snap_view.proofs.table_view.TableView.rows_from.Goals as goal
 
 pub returns-clause-ahead : goal.returns-clause-ahead

@@ -1,7 +1,6 @@
 use Rattle.std.proofs.Common.{◌∙◌, ◌<◌, ◌^◌, Option, None, ℕ, ◌≡◌, refl, ap, sym, subst}
 use Rattle.snap_prelude.specs.{Between, Cloned, depth, image, Laid, Right, Tree}
-use Rattle.snap_view.specs.Readable.{IsReadable}
-use Rattle.snap_view.specs.Nearest.{nearest_row, levels}
+use Rattle.snap_view.specs.{Readable.IsReadable, Nearest.levels, Nearest.nearest_row}
 use Rattle.snap_view.proofs.Levels.{HasSounded, sounded_none, sounded_on, sounded_all, sounds_fewer}
 use Rattle.snap_view.proofs.Passing.{keys_ahead}
 use Rattle.snap_view.proofs.table_view.TableView.sounded_depth.Goals as goal

@@ -1,7 +1,6 @@
 use Rattle.std.proofs.Common.{◌≡◌}
 use Rattle.snap_prelude.specs.{image, Right}
-use Rattle.snap_view.proofs.Levels.{HasSounded}
-use Rattle.snap_view.proofs.Passing.{keys_ahead}
+use Rattle.snap_view.proofs.{Levels.HasSounded, Passing.keys_ahead}
 use Rattle.snap_view.proofs.table_view.TableView.sounded_depth.Given as goal
 
 -- the ways before the next key were gone

@@ -1,10 +1,8 @@
 use Rattle.std.proofs.Common.{◌+◌, ap, arith, refl, ◌∙◌, ◌<◌, ◌^◌, Option, sym, subst}
-use Rattle.snap_prelude.specs.{Cloned, image, IsWithin, RowCopy, Tree}
-use Rattle.snap_view.specs.Tops.{HasTree}
-use Rattle.snap_view.specs.declared.way.WayDown.{WayDown}
+use Rattle.snap_prelude.specs.{Cloned, image, IsSubtree, RowCopy, Tree}
+use Rattle.snap_view.specs.{Tops.HasTree, declared.way.WayDown.WayDown}
 use Rattle.snap_view.proofs.Seeking.{Descends, next_row, TopsAt, descends_from, descends_on, descends_end, descends_low, has_next, next_fewer}
-use Rattle.snap_view.proofs.Sizes.{few}
-use Rattle.snap_view.proofs.Within.{levels_below}
+use Rattle.snap_view.proofs.{Sizes.few, Within.levels_below}
 use Rattle.snap_view.proofs.table_view.TableView.way_down.Goals as goal
 
 pub loop-here-init : goal.loop-here-init
@@ -21,7 +19,7 @@ pub loop-here-smaller : goal.loop-here-smaller
 loop-here-smaller g c =
     let t : Tree = image c.args.self.now in
     let s = subst (λ (h : Option RowCopy). Descends t c.args.side c.args.from h c.loop-here.way c.args.steps.now c.loop-here.steps) c.in-Some.is c.loop-here.invariant.1 in
-    let tops : TopsAt t (next_row c.args.side c.args.from c.in-Some.copy) c.row_at-here.result = λ u w z. c.row_at-here.ensures.top u (subst (λ (k : Cloned). IsWithin u (image k)) (sym c.loop-here.invariant.0) w) (z ∙ sym c.below.ensures) in
+    let tops : TopsAt t (next_row c.args.side c.args.from c.in-Some.copy) c.row_at-here.result = λ u w z. c.row_at-here.ensures.top u (subst (λ (k : Cloned). IsSubtree u (image k)) (sym c.loop-here.invariant.0) w) (z ∙ sym c.below.ensures) in
     subst (λ (h : Option RowCopy). levels_below t c.row_at-here.result < levels_below t h) (sym c.in-Some.is) (next_fewer t s.tree s.within c.in-Some.copy s.top c.args.side c.args.from 0 (2 ^ 64) c.row_at-here.result c.top-here.ensures.clone.ordered tops)
 
 pub overflow_add-way : goal.overflow_add-way
@@ -35,7 +33,7 @@ pub loop-here-preserved : goal.loop-here-preserved
 loop-here-preserved g c =
     let t : Tree = image c.args.self.now in
     let s = subst (λ (h : Option RowCopy). Descends t c.args.side c.args.from h c.loop-here.way c.args.steps.now c.loop-here.steps) c.in-Some.is c.loop-here.invariant.1 in
-    let tops : TopsAt t (next_row c.args.side c.args.from c.in-Some.copy) c.row_at-here.result = λ u w z. c.row_at-here.ensures.top u (subst (λ (k : Cloned). IsWithin u (image k)) (sym c.loop-here.invariant.0) w) (z ∙ sym c.below.ensures) in
+    let tops : TopsAt t (next_row c.args.side c.args.from c.in-Some.copy) c.row_at-here.result = λ u w z. c.row_at-here.ensures.top u (subst (λ (k : Cloned). IsSubtree u (image k)) (sym c.loop-here.invariant.0) w) (z ∙ sym c.below.ensures) in
     let way : WayDown = record { row = c.nearer.result; levels = c.loop-here.way.levels + 1 } in
     (c.row_at-here.ensures.view ∙ c.loop-here.invariant.0, descends_on t c.args.side c.args.from c.in-Some.copy c.loop-here.way way c.args.steps.now c.loop-here.steps c.row_at-here.result c.row_at-here.new.steps s c.nearer.ensures refl tops c.row_at-here.ensures.steps)
 

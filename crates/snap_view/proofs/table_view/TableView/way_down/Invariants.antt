@@ -1,7 +1,6 @@
 use Rattle.std.proofs.Common.{◌≡◌}
 use Rattle.snap_prelude.specs.{image}
-use Rattle.snap_view.proofs.Seeking.{Descends}
-use Rattle.snap_view.proofs.Within.{levels_below}
+use Rattle.snap_view.proofs.{Seeking.Descends, Within.levels_below}
 use Rattle.snap_view.proofs.table_view.TableView.way_down.Given as goal
 
 -- the way goes on below here
