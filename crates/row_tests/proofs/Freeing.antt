@@ -1,10 +1,8 @@
 -- The rows of a change are freed one after another.
 use Rattle.std.proofs.Common.{◌≡◌, ◌≢◌, ℕ, List, [], ◌∷◌, Bool, false, true, refl, sym, ap, ◌∙◌, arith}
 use Rattle.snap_prelude.proofs.Common.{dite, one_same, removed_other, removed_same, ℕ_discrete}
-use Rattle.row_tests.specs.Stopping.{HasTaken, HoldsRoot, HoldsTop, HoldsTurn, IsWriting, MayUnlinkRoot}
-use Rattle.snap_shape.specs.Shapes.{Keeps}
-use Rattle.snap_shape.specs.declared.grip.Edge.{Edge}
-use Rattle.snap_shape.specs.declared.grip.Turn.{Turn}
+use Rattle.row_tests.specs.Stopping.{HasTaken, HoldsRoot, HoldsTop, HoldsTurn, IsWritingPass, MayUnlinkRoot}
+use Rattle.snap_shape.specs.{Shapes.KeepsRest, declared.grip.Edge.Edge, declared.grip.Turn.Turn}
 use Rattle.snap_prelude.specs.{Among, Becomes, IsOf, Known, Laid, removed, times, unlocked, Writing}
 
 -- a list in which no number stands is empty
@@ -23,7 +21,7 @@ all_freed l a b c only = none_left (removed 0 (removed a (removed b (removed c l
 pub held_still : (a b : Known) (r s : ℕ) → Becomes a b (unlocked a.view r) → s ≢ r → Among s a.view.holds → Among s b.view.holds
 held_still a b r s e ne h = omega (arith, h, ap (λ (k : Known). times s k.view.holds) e, removed_other r s a.view.holds ne)
 
-pub writing_still : (rows : Laid) (a b : Known) (r : ℕ) (made : Bool) → Becomes a b (unlocked a.view r) → IsWriting rows a made → IsWriting rows b made
+pub writing_still : (rows : Laid) (a b : Known) (r : ℕ) (made : Bool) → Becomes a b (unlocked a.view r) → IsWritingPass rows a made → IsWritingPass rows b made
 writing_still rows a b r made e w = record {
   of = (ap (λ (k : Known). k.table) e ∙ w.of.0, ap (λ (k : Known). k.view.rows) e ∙ w.of.1, ap (λ (k : Known). k.view.passes) e ∙ w.of.2);
   stage = ap (λ (k : Known). k.view.stage) e ∙ w.stage;
@@ -44,14 +42,14 @@ none_held_below rows a b c made row h first last =
     ∙ none_left (removed 0 (removed row a.view.holds)) (λ r. gone r 0 (removed row a.view.holds) (λ nz. gone r row a.view.holds (λ nr. h.only r nz nz nr)))
 
 -- a change of the tree's shape leaves what is held
-writes_on : (rows : Laid) (a b c : Known) (made : Bool) (x y z : ℕ) → a.view.stage ≡ Writing made false → IsOf b rows → b.view.stage ≡ a.view.stage → Keeps b c x y z → IsWriting rows c made
+writes_on : (rows : Laid) (a b c : Known) (made : Bool) (x y z : ℕ) → a.view.stage ≡ Writing made false → IsOf b rows → b.view.stage ≡ a.view.stage → KeepsRest b c x y z → IsWritingPass rows c made
 writes_on rows a b c made x y z stage of same k = record {
   of = (ap (λ (k : Known). k.table) k.is ∙ of.0, ap (λ (k : Known). k.view.rows) k.is ∙ of.1, ap (λ (k : Known). k.view.passes) k.is ∙ of.2);
   stage = ap (λ (k : Known). k.view.stage) k.is ∙ same ∙ stage;
   whole = k.whole;
 }
 
-pub holds_turn : (rows : Laid) (a b c : Known) (made : Bool) (t : Turn) (x y z : ℕ) → a.view.stage ≡ Writing made false → HasTaken rows a b t → t.parent.row ≢ 0 → Keeps b c x y z → HoldsTurn rows c made t
+pub holds_turn : (rows : Laid) (a b c : Known) (made : Bool) (t : Turn) (x y z : ℕ) → a.view.stage ≡ Writing made false → HasTaken rows a b t → t.parent.row ≢ 0 → KeepsRest b c x y z → HoldsTurn rows c made t
 holds_turn rows a b c made t x y z stage m some k = record {
   writing = writes_on rows a b c made x y z stage m.of m.stage k;
   rows_are = m.rows_are;
@@ -64,7 +62,7 @@ holds_turn rows a b c made t x y z stage m some k = record {
   only = λ q nz n1 n2 n3. ap (λ (k : Known). times q k.view.holds) k.is ∙ m.only q nz n1 n2 n3;
 }
 
-pub holds_top : (rows : Laid) (a b c : Known) (made : Bool) (t : Turn) (x y z : ℕ) → a.view.stage ≡ Writing made false → HasTaken rows a b t → t.parent.row ≡ 0 → Keeps b c x y z → HoldsTop rows c made t.row.row t.raised.row
+pub holds_top : (rows : Laid) (a b c : Known) (made : Bool) (t : Turn) (x y z : ℕ) → a.view.stage ≡ Writing made false → HasTaken rows a b t → t.parent.row ≡ 0 → KeepsRest b c x y z → HoldsTop rows c made t.row.row t.raised.row
 holds_top rows a b c made t x y z stage m top k = record {
   writing = writes_on rows a b c made x y z stage m.of m.stage k;
   rows_are = (m.rows_are.1, m.rows_are.2);
@@ -87,7 +85,7 @@ root_left rows a b made row raised h e = record {
   only = λ q nz _ n. ap (λ (k : Known). times q k.view.holds) e ∙ gone q raised a.view.holds (λ nr. h.only q nz n nr);
 }
 
-pub holds_root : (rows : Laid) (a b c : Known) (e : Edge) (x y z : ℕ) → a.view.stage ≡ Writing true false → MayUnlinkRoot rows a b e → Keeps b c x y z → HoldsRoot rows c true e.child.row
+pub holds_root : (rows : Laid) (a b c : Known) (e : Edge) (x y z : ℕ) → a.view.stage ≡ Writing true false → MayUnlinkRoot rows a b e → KeepsRest b c x y z → HoldsRoot rows c true e.child.row
 holds_root rows a b c e x y z stage m k = record {
   writing = writes_on rows a b c true x y z stage m.of m.stage k;
   low = m.rows_are.1;

@@ -1,3 +1,4 @@
 pub mod Taking
 pub mod Freeing
 pub mod Entering
+pub mod Begun

@@ -1,19 +1,16 @@
 -- Rows that a pass takes one below the other.
-use Rattle.std.proofs.Common.{◌≡◌, ◌≢◌, inl, refl, Some, ℕ, ◌<◌, ◌≤◌, List, [], ◌∷◌, sym, ap, ◌∙◌, subst, arith}
+use Rattle.std.proofs.Common.{◌≡◌, ◌≢◌, refl, ℕ, ◌<◌, ◌≤◌, List, [], ◌∷◌, sym, ap, ◌∙◌, subst, arith}
 use Rattle.snap_copy.specs.Mending.{Firm, Looks, NoWord}
 use Rattle.snap_locks.specs.Held.{HasLocked}
 use Rattle.snap_repair.proofs.Mending.{firm_on, grip_firm, locked_firm, looks_on, read_looks}
 use Rattle.snap_repair.specs.Answers.{IsMending}
-use Rattle.snap_shape.specs.Grips.{HasGrip, IsEdge, Leads, edge_at, turn_at}
-use Rattle.snap_shape.specs.declared.grip.Edge.{Edge}
-use Rattle.snap_prelude.specs.{Among, Becomes, count_of, Field, IsKnown, IsOf, Known, Laid}
+use Rattle.snap_shape.specs.{Grips.edge_at, Grips.HasGrip, Grips.IsEdge, Grips.Leads, Grips.turn_at}
+use Rattle.snap_shape.specs.{declared.grip.Edge.Edge, declared.grip.Grip.Grip, declared.grip.Turn.Turn}
+use Rattle.snap_prelude.specs.{Becomes, count_of, Field, IsKnown, IsOf, Known, Laid}
 use Rattle.snap_prelude.specs.{last_count, link_field, no_debt, read, Side, times, Value}
-use Rattle.snap_shape.specs.declared.grip.Grip.{Grip}
-use Rattle.snap_shape.specs.declared.grip.Turn.{Turn}
-use Rattle.snap_shape.proofs.Touching.{loaded_here}
 use Rattle.snap_stamp.specs.declared.layout.Field.TheVariants.{Left, Right}
 use Rattle.snap_prelude.proofs.Common.{one_other, one_same}
-use Rattle.row_tests.specs.Stopping.{HasTaken, HoldsOnly, IsGone, MayTurn, MayTurnRoot, MayUnlink, MayUnlinkRoot, Takes, TakesEdge, TakesTop}
+use Rattle.row_tests.specs.Stopping.{HasTaken, HoldsOnly, IsUnlinkable, MayTurn, MayTurnRoot, MayUnlink, MayUnlinkRoot, Takes, TakesEdge, TakesTop}
 
 pub grip_kept : (a b : Known) (g : Grip) → Firm a b NoWord → HasGrip a.view g → HasGrip b.view g
 grip_kept a b g f h = grip_firm a b NoWord g f (λ z. z) (λ z. z) (λ z. z) h
@@ -26,12 +23,6 @@ edge_kept a b upper lower d f e = record {
   is_row = e.is_row;
   on_right = e.on_right;
   apart = e.apart;
-}
-
-pub mending_kept : (a b : Known) → Firm a b NoWord → IsMending a.view → IsMending b.view
-mending_kept a b f m = record {
-  writing = (m.writing.0, m.writing.1, ap (λ (k : Known). k.view.stage) f.mends.is ∙ m.writing.2);
-  whole = f.mends.whole ∙ m.whole;
 }
 
 -- row 0 alone is held
@@ -146,27 +137,12 @@ word a b r f x = Becomes a b (read a.view r f x)
 pub words_look : (a b c d : Known) (r x y z : ℕ) → word a b r Value x → word b c r Left y → word c d r Right z → Looks a d
 words_look a b c d r x y z value left right = looks_on a b d (read_looks a b r Value x value) (looks_on b c d (read_looks b c r Left y left) (read_looks c d r Right z right))
 
--- they tell that it may be unlinked
-pub tells_gone : (a b c d : Known) (row : Grip) → HasGrip a.view row → row.row ≢ 0 → word a b row.row Value 0 → word b c row.row Left 0 → word c d row.row Right 0 → d.view.debt.to_do ≡ Some row.key → IsGone d.view row.row
-tells_gone a b c d row grip some value left right to_do =
-    let ab = read_looks a b row.row Value 0 value in
-    let bc = read_looks b c row.row Left 0 left in
-    let cd = read_looks c d row.row Right 0 right in
-    let bd : Firm b d NoWord = firm_on b c d bc.0 cd.0 in
-    let held : Among row.row b.view.holds = ab.0.held row.row grip.held in record {
-      routing = record {
-        no_value = bd.knows row.row Value 0 (λ z. z) (loaded_here a b row.row Value 0 grip.held value);
-        one = inl (cd.0.knows row.row Left 0 (λ z. z) (loaded_here b c row.row Left 0 held left), loaded_here c d row.row Right 0 (bc.0.held row.row held) right);
-      };
-      aims = record { is_row = some; key = row.key; is_key = (grip_kept a d row (firm_on a b d ab.0 bd) grip).is_key; to_do = to_do };
-    }
-
 -- the rows of an unlinking
-pub may_unlink : (rows : Laid) (a b c d : Known) (e : Edge) (side : Side) (raised : Grip) → IsOf a rows → IsMending a.view → TakesEdge rows.rows a b e → Takes rows.rows b c e.parent.row e.child side raised → Looks c d → IsGone d.view raised.row → MayUnlink rows a d (turn_at e.parent e.side e.child side raised)
+pub may_unlink : (rows : Laid) (a b c d : Known) (e : Edge) (side : Side) (raised : Grip) → IsOf a rows → IsMending a.view → TakesEdge rows.rows a b e → Takes rows.rows b c e.parent.row e.child side raised → Looks c d → IsUnlinkable d.view raised.row → MayUnlink rows a d (turn_at e.parent e.side e.child side raised)
 may_unlink rows a b c d e side raised of m t u s gone = record { taken = taken_on rows a c d (turn_at e.parent e.side e.child side raised) (has_taken rows a b c e side raised of m t u) s; some = t.some; gone = gone }
 
 -- row 0 and the root
-pub may_unlink_root : (rows : Laid) (a b c : Known) (e : Edge) → IsOf a rows → IsMending a.view → TakesTop rows.rows a b e → Looks b c → IsGone c.view e.child.row → MayUnlinkRoot rows a c e
+pub may_unlink_root : (rows : Laid) (a b c : Known) (e : Edge) → IsOf a rows → IsMending a.view → TakesTop rows.rows a b e → Looks b c → IsUnlinkable c.view e.child.row → MayUnlinkRoot rows a c e
 may_unlink_root rows a b c e of m t w gone =
     let all : Firm a c NoWord = firm_on a b c t.firm w.0 in record {
       of = of_kept rows a c all of;

@@ -1,12 +1,10 @@
 -- A write that stops in the midst of a change of the tree's shape: the rows that its pass has taken until then.
-use Rattle.std.specs.Prelude.{◌≡◌, ◌≢◌, ◌≤◌, ◌<◌, ℕ, Bool, false}
+use Rattle.std.specs.Prelude.{◌≡◌, ◌≢◌, ◌+◌, ◌≤◌, ◌<◌, ℕ, Bool, false}
 use Rattle.snap_copy.specs.Mending.{Firm, NoWord}
-use Rattle.snap_prelude.specs.{AimsAt, Among, count_of, IsOf, IsRouting, Known, Laid}
-use Rattle.snap_prelude.specs.{last_count, no_debt, Nothing, Side, times, View, Writing}
-use Rattle.snap_shape.specs.Grips.{AreWithin, IsEdge, IsTurning, IsWithin, edge_at}
-use Rattle.snap_shape.specs.declared.grip.Edge.{Edge}
-use Rattle.snap_shape.specs.declared.grip.Grip.{Grip}
-use Rattle.snap_shape.specs.declared.grip.Turn.{Turn}
+use Rattle.snap_prelude.specs.{AimsAt, Among, Becomes, count_of, IsOf, IsRouting, Known, Laid, last_count, link_field}
+use Rattle.snap_prelude.specs.{no_debt, Nothing, other, read, shrunk, Side, times, View, Writing}
+use Rattle.snap_shape.specs.{Grips.AreWithin, Grips.edge_at, Grips.IsEdge, Grips.IsTurning, Grips.IsWithin, Grips.Leads}
+use Rattle.snap_shape.specs.{declared.grip.Edge.Edge, declared.grip.Grip.Grip, declared.grip.Turn.Turn}
 
 -- no row is held but row 0 and these two
 abbrev pub HoldsOnly : View → ℕ → ℕ → Type 0
@@ -66,8 +64,18 @@ pub record MayTurnRoot (rows : Laid) (old k : Known) (t : Turn) : Type 0 where
   pub owes : k.view.debt ≡ no_debt
   pub count : count_of t.row.stamp < last_count
 
+-- the view once a rotation was begun: the link of the row that comes up was loaded, and the mark set
+abbrev pub turn_begun : View → Turn → ℕ → View
+turn_begun v t middle = shrunk (read v t.raised.row (link_field (other t.side)) middle) t.parent.row t.parent_side t.row.row t.side t.raised.row (t.row.stamp + 2) t.row.key
+
+-- a rotation of these rows was begun by a pass that held them, and the link is known
+pub record HasBegunTurn (old k : Known) (t : Turn) (middle : ℕ) : Type 0 where
+  pub turn : IsTurning old.view t
+  pub begun : Becomes old k (turn_begun old.view t middle)
+  pub middle_is : Leads k.view t.raised.row (other t.side) middle
+
 -- the row may be unlinked: it has neither a value nor children, and the to-do key is its own
-pub record IsGone (v : View) (row : ℕ) : Type 0 where
+pub record IsUnlinkable (v : View) (row : ℕ) : Type 0 where
   pub routing : IsRouting v row 0
   pub aims : AimsAt v row
 
@@ -75,28 +83,28 @@ pub record IsGone (v : View) (row : ℕ) : Type 0 where
 pub record MayUnlink (rows : Laid) (old k : Known) (t : Turn) : Type 0 where
   pub taken : HasTaken rows old k t
   pub some : t.parent.row ≢ 0
-  pub gone : IsGone k.view t.raised.row
+  pub gone : IsUnlinkable k.view t.raised.row
 
 -- the pass can begin to unlink the root, and holds no row but row 0 and the root
 pub record MayUnlinkRoot (rows : Laid) (old k : Known) (e : Edge) : Type 0 where
   pub of : IsOf k rows
   pub rows_are : IsWithin rows.rows e
   pub edge : IsEdge k.view e
-  pub gone : IsGone k.view e.child.row
+  pub gone : IsUnlinkable k.view e.child.row
   pub whole : k.view.doing ≡ Nothing
   pub stage : k.view.stage ≡ old.view.stage
   pub zero : Among 0 k.view.holds
   pub only : HoldsOnly k.view 0 e.child.row
 
 -- the pass is in a write, with its entry or without, and in no change
-pub record IsWriting (rows : Laid) (k : Known) (made : Bool) : Type 0 where
+pub record IsWritingPass (rows : Laid) (k : Known) (made : Bool) : Type 0 where
   pub of : IsOf k rows
   pub stage : k.view.stage ≡ Writing made false
   pub whole : k.view.doing ≡ Nothing
 
 -- and it holds row 0 and three rows, and no other
 pub record HoldsTurn (rows : Laid) (k : Known) (made : Bool) (t : Turn) : Type 0 where
-  pub writing : IsWriting rows k made
+  pub writing : IsWritingPass rows k made
   pub rows_are : AreWithin rows.rows t
   pub some : (t.parent.row ≢ 0) × (t.row.row ≢ 0) × (t.raised.row ≢ 0)
   pub apart : (t.parent.row ≢ t.row.row) × (t.parent.row ≢ t.raised.row) × (t.row.row ≢ t.raised.row)
@@ -108,7 +116,7 @@ pub record HoldsTurn (rows : Laid) (k : Known) (made : Bool) (t : Turn) : Type 0
 
 -- and it holds row 0 and these two rows, and no other
 pub record HoldsTop (rows : Laid) (k : Known) (made : Bool) (row raised : ℕ) : Type 0 where
-  pub writing : IsWriting rows k made
+  pub writing : IsWritingPass rows k made
   pub rows_are : (row ≤ rows.rows) × (raised ≤ rows.rows)
   pub some : (row ≢ 0) × (raised ≢ 0)
   pub apart : row ≢ raised
@@ -119,7 +127,7 @@ pub record HoldsTop (rows : Laid) (k : Known) (made : Bool) (row raised : ℕ) :
 
 -- and it holds row 0 and this row, and no other
 pub record HoldsRoot (rows : Laid) (k : Known) (made : Bool) (row : ℕ) : Type 0 where
-  pub writing : IsWriting rows k made
+  pub writing : IsWritingPass rows k made
   pub low : row ≤ rows.rows
   pub some : row ≢ 0
   pub zero : Among 0 k.view.holds

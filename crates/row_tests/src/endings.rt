@@ -1,6 +1,7 @@
 //! Repairs that end below a row which another pass holds. With a way up to row 0 each would wait for ever.
-ghost use Rattle.snap_prelude.specs.{IsOf};
+ghost use Rattle.snap_prelude.specs.{IsOf, Put};
 ghost use Rattle.snap_table.specs.Ready.{IsReadyTo};
+ghost use Rattle.snap_update.specs.Answers.{FitsWord};
 
 use crate::asserts::is;
 use crate::stopped::{make, put_seven};
@@ -8,18 +9,19 @@ use snap_epoch::{enter, leave};
 use snap_locks::{lock, unlock};
 use snap_model::Call;
 use snap_search::get;
-use snap_stamp::RowNo;
+use snap_stamp::{Key, RowNo};
 use snap_steps::{Pass, Rows};
 use std::process::Abort;
 use std::sync::Wait;
 use std::test::Fail;
 
-// Puts 80, which goes below 70. So 70, 60 and 40 get another height.
-fn put_eighth<R: Abort + Wait>(rows: &Rows, rt: &R, pass: &mut Pass)
-    requires { IsReadyTo rows.now 0 7 pass.old }
+// Puts a key beside the seven. Below 70 it gives 70, 60 and 40 another height, below 10 that, 20 and 40.
+pub(crate) fn put_eighth<R: Abort + Wait>(rows: &Rows, rt: &R, pass: &mut Pass, key: Key)
+    requires pass { IsReadyTo rows.now 0 7 pass.old }
+    requires value { FitsWord (Put key key) }
     ensures { IsReadyTo rows.now 0 8 pass.new }
 {
-    let call = Call::Put { key: 80, value: 80 };
+    let call = Call::Put { key, value: key };
     is(rt, make(rows, rt, pass, &call), Ok(None));
 }
 
@@ -71,7 +73,7 @@ fn a_repair_ends_below_a_held_row(rt: HostRuntime) -> Result<(), Fail> {
     let mut q = passes.pop().expect(&rt, "no second pass");
     let mut p = passes.pop().expect(&rt, "no first pass");
     is(&rt, put_seven(&rows, &rt, &mut p), true);
-    put_eighth(&rows, &rt, &mut p);
+    put_eighth(&rows, &rt, &mut p, 80);
     write_below(&rows, &rt, &mut q, &mut p);
     Ok(())
 }

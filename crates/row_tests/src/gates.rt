@@ -1,5 +1,5 @@
 //! The gate, by two passes in turn, and by three threads at once.
-ghost use Rattle.row_tests.specs.Ready.{IsReady};
+ghost use Rattle.row_tests.specs.Ready.{IsIdlePass};
 
 use crate::asserts::{holds, is};
 use snap_epoch::{close, enter, leave, reopen};
@@ -29,8 +29,8 @@ fn gate_counts(rt: HostRuntime) -> Result<(), Fail> {
 
 // Draws, enters, leaves, closes and opens again, so many times.
 fn take_turns<R: Wait>(rows: &Rows, rt: &R, mut pass: Pass, who: u32) -> Pass
-    requires { IsReady rows.now who 0 pass }
-    ensures { IsReady rows.now who 200 result }
+    requires { IsIdlePass rows.now who 0 pass }
+    ensures { IsIdlePass rows.now who 200 result }
 {
     for turn in 0..100u64 {
         let _turn = turn;
@@ -52,8 +52,8 @@ fn threads_take_turns(rt: HostRuntime) -> Result<(), Fail> {
     let ((mut a, b), c) = thread::join(
         &rt,
         || -> (Pass, Pass)
-            requires { IsReady rows 0 0 a × IsReady rows 1 0 b }
-            ensures { IsReady rows 0 200 result.0 × IsReady rows 1 200 result.1 }
+            requires { IsIdlePass rows 0 0 a × IsIdlePass rows 1 0 b }
+            ensures { IsIdlePass rows 0 200 result.0 × IsIdlePass rows 1 200 result.1 }
         {
             thread::join(
                 &rt,

@@ -2,14 +2,14 @@
 ghost use Rattle.std.specs.Prelude.{◌≡◌, ◌≢◌, ◌<◌, ◌≤◌, [], IfSome, IsTrue, MatchOption};
 ghost use Rattle.snap_copy.specs.Mending.{Looks};
 ghost use Rattle.snap_repair.specs.Answers.{IsMending};
-ghost use Rattle.snap_prelude.specs.{Among, count_of, IsOf, last_count, no_debt, Right};
+ghost use Rattle.snap_prelude.specs.{Among, IsOf, no_debt, Right};
 ghost use Rattle.snap_search.specs.Prelude.{IsReached};
 ghost use Rattle.snap_shape.specs.Grips.{HasGrip};
-ghost use Rattle.row_tests.specs.Stopping.{HoldsOnly, IsGone, MayTurn, MayTurnRoot, MayUnlink, MayUnlinkRoot, Takes, TakesEdge, TakesTop};
+ghost use Rattle.row_tests.specs.Stopping.{HoldsOnly, IsUnlinkable, MayTurn, MayTurnRoot, MayUnlink, MayUnlinkRoot, Takes, TakesEdge, TakesTop};
 
 use crate::waits::comes;
 use snap_locks::lock;
-use snap_shape::{Edge, Grip, Turn, child_of};
+use snap_shape::{Edge, Grip, Turn, child_of, turn_of};
 use snap_stamp::{Field, Key, RowNo, Side, Stamp};
 use snap_steps::{Pass, Rows, load_epoch, load_key, load_word};
 use std::sync::Wait;
@@ -124,13 +124,8 @@ pub(crate) fn take_turn<R: Wait>(
     if Stamp::of(row.stamp).is_last() {
         return None;
     }
-    Some(Turn {
-        parent: root,
-        parent_side: edge.side,
-        row,
-        side: Side::Right,
-        raised,
-    })
+    let turn = turn_of(&edge, Side::Right, &raised);
+    Some(turn)
 }
 
 // The rows of a rotation at the root, which is to go down below its right child: row 0, the root and that child.
@@ -142,18 +137,13 @@ pub(crate) fn take_top_turn<R: Wait>(rows: &Rows, rt: &R, pass: &mut Pass) -> Op
     ensures { IfSome result (λ t. MayTurnRoot rows.now pass.old pass.new t) }
 {
     let edge = take_top(rows, rt, pass)?;
-    let (top, root) = (edge.parent, edge.child);
+    let root = edge.child;
     let raised = take_child(rows, rt, pass, RowNo::HOLDER, &root, Side::Right)?;
     if Stamp::of(root.stamp).is_last() {
         return None;
     }
-    Some(Turn {
-        parent: top,
-        parent_side: edge.side,
-        row: root,
-        side: Side::Right,
-        raised,
-    })
+    let turn = turn_of(&edge, Side::Right, &raised);
+    Some(turn)
 }
 
 // Whether a held row may be unlinked: it has neither a value nor children, and the to-do key is its own.
@@ -163,7 +153,7 @@ fn is_gone(rows: &Rows, pass: &mut Pass, row: &Grip) -> bool
     requires row { (row.now.row ≤ rows.now.rows) × (row.now.row ≢ 0) }
     requires grip { HasGrip pass.old.view row.now }
     ensures looks { Looks pass.old pass.new }
-    ensures gone { IsTrue result → IsGone pass.new.view row.now.row }
+    ensures gone { IsTrue result → IsUnlinkable pass.new.view row.now.row }
 {
     let value = load_word(rows, pass, row.row, Field::Value);
     let left = load_word(rows, pass, row.row, Field::Left);
@@ -191,13 +181,8 @@ pub(crate) fn take_routing<R: Wait>(rows: &Rows, rt: &R, pass: &mut Pass) -> Opt
     if !is_gone(rows, pass, &raised) {
         return None;
     }
-    Some(Turn {
-        parent: root,
-        parent_side: edge.side,
-        row,
-        side: Side::Right,
-        raised,
-    })
+    let turn = turn_of(&edge, Side::Right, &raised);
+    Some(turn)
 }
 
 // The rows of an unlinking at the top: row 0 and the root, which has neither a value nor children.

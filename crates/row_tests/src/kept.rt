@@ -55,36 +55,22 @@ fn ends_so<R: Abort + Wait>(
     assert_eq!(rt; found.as_str(), want);
 }
 
-#[test]
-fn a_search_keeps_the_rows_above_the_key(rt: HostRuntime) -> Result<(), Fail> {
-    let (rows, mut passes) = Rows::open(rt.alloc(), 7, 1)?;
-    let mut p = passes.pop().expect(&rt, "no pass");
-    is(&rt, put_seven(&rows, &rt, &mut p), true);
-    enter(&rows, &rt, &mut p);
-    ends_so(
-        &rows,
-        &rt,
-        rt.alloc(),
-        &mut p,
-        50,
-        " 5 below 6 6 below 4 4 below 0",
-    );
+// In a new table of the seven keys.
+fn ends_in_seven<R: Abort + Wait>(rt: &R, alloc: Global, key: Key, want: &str) -> Result<(), Fail> {
+    let (rows, mut passes) = Rows::open(alloc, 7, 1)?;
+    let mut p = passes.pop().expect(rt, "no pass");
+    is(rt, put_seven(&rows, rt, &mut p), true);
+    enter(&rows, rt, &mut p);
+    ends_so(&rows, rt, alloc, &mut p, key, want);
     Ok(())
 }
 
 #[test]
+fn a_search_keeps_the_rows_above_the_key(rt: HostRuntime) -> Result<(), Fail> {
+    ends_in_seven(&rt, rt.alloc(), 50, " 5 below 6 6 below 4 4 below 0")
+}
+
+#[test]
 fn a_search_keeps_the_rows_above_a_gap(rt: HostRuntime) -> Result<(), Fail> {
-    let (rows, mut passes) = Rows::open(rt.alloc(), 7, 1)?;
-    let mut p = passes.pop().expect(&rt, "no pass");
-    is(&rt, put_seven(&rows, &rt, &mut p), true);
-    enter(&rows, &rt, &mut p);
-    ends_so(
-        &rows,
-        &rt,
-        rt.alloc(),
-        &mut p,
-        25,
-        " 3 below 2 2 below 4 4 below 0",
-    );
-    Ok(())
+    ends_in_seven(&rt, rt.alloc(), 25, " 3 below 2 2 below 4 4 below 0")
 }

@@ -24,6 +24,10 @@ mod stamps;
 #[cfg(test)]
 mod stopped;
 #[cfg(test)]
+mod turns;
+#[cfg(test)]
 mod waits;
+#[cfg(test)]
+mod ways;
 #[cfg(test)]
 mod writes;

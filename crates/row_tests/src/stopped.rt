@@ -1,26 +1,27 @@
 //! A write that stops in the midst of a rotation or of an unlinking, and the reads that then come by.
 ghost use Rattle.std.specs.Prelude.{◌≡◌, ◌<◌, ◌≤◌, ◌+◌, ◌^◌, [], false, true, MatchResult};
 ghost use Rattle.snap_prelude.specs.{count_of, IsOf, last_count, no_debt, Nothing};
-ghost use Rattle.row_tests.specs.Stopping.{HoldsRoot, HoldsTop, HoldsTurn, IsGone, IsWriting};
+ghost use Rattle.row_tests.specs.Stopping.{HoldsRoot, HoldsTop, HoldsTurn, IsUnlinkable, IsWritingPass};
+ghost use Rattle.snap_search.specs.Prelude.{IsWay};
 ghost use Rattle.snap_shape.specs.Grips.{AreWithin, IsEdge, IsTurning, IsWithin};
 ghost use Rattle.snap_shape.specs.Shapes.{Rotates, Unlinks};
-ghost use Rattle.snap_table.specs.Calls.{IsIdle, Refuses, Replies};
-ghost use Rattle.snap_table.specs.Ready.{IsReadyTo};
+ghost use Rattle.snap_table.specs.{Calls.IsIdle, Calls.Refuses, Calls.Replies, Ready.IsReadyTo};
 ghost use Rattle.snap_update.specs.Answers.{FitsWord};
 
 use crate::asserts::is;
 use crate::grips::{take_root, take_routing, take_top_turn, take_turn};
+use crate::turns::{begin_turn, end_turn};
 use crate::waits::{comes_free, comes_held};
 use snap_epoch::{enter, leave};
 use snap_locks::unlock;
 use snap_model::Call;
 use snap_repair::repair;
 use snap_search::{Busy, Way, get, try_get};
-use snap_shape::{Edge, Turn, child_of, rotate};
+use snap_shape::{Edge, Turn, rotate};
 use snap_stamp::{Key, RowNo};
 use snap_steps::{
-    Full, Pass, Rows, clear_shrinking, link_lowered, link_parent, link_raised, mark_shrinking,
-    mark_unlinked, splice,
+    Full, Pass, Rows, clear_shrinking, link_lowered, link_parent, link_raised, mark_unlinked,
+    splice,
 };
 use snap_update::write;
 use std::alloc::{AllocError, Global};
@@ -107,23 +108,11 @@ fn rotate_slowly<R: Abort + Wait>(
     ensures reader { IsOf reader.new rows.now }
     ensures turned { Rotates pass.old pass.new turn.now }
 {
-    let (parent_side, side, across) = (turn.parent_side, turn.side, turn.side.other());
+    let (parent_side, side) = (turn.parent_side, turn.side);
     let (upper, lower, upward) = (turn.parent.row, turn.row.row, turn.raised.row);
     let (key, stamp) = (turn.row.key, turn.row.stamp);
-    let raised = turn.raised;
-    let middle = child_of(rows, pass, &raised, across);
     reads_find(rows, rt, alloc, reader, ALL_ANSWER);
-    mark_shrinking(
-        rows,
-        pass,
-        upper,
-        parent_side,
-        lower,
-        side,
-        upward,
-        stamp,
-        key,
-    );
+    let middle = begin_turn(rows, pass, turn);
     reads_find(rows, rt, alloc, reader, BELOW_IS_BUSY);
     link_lowered(rows, pass, upper, parent_side, lower, side, upward, middle);
     reads_find(rows, rt, alloc, reader, BELOW_IS_BUSY);
@@ -137,11 +126,20 @@ fn rotate_slowly<R: Abort + Wait>(
 
 // Repairs, and ends a write that holds no row. `made`: it made its entry.
 fn end_write<R: Wait>(rows: &Rows, rt: &R, pass: &mut Pass, made: bool)
-    requires writing { IsWriting rows.now pass.old made }
+    requires writing { IsWritingPass rows.now pass.old made }
     requires free { pass.old.view.holds ≡ [] }
 {
     let mut way = Way::none();
-    let _ = repair(rows, rt, pass, &mut way);
+    end_by(rows, rt, pass, &mut way, made);
+}
+
+// The same, by a way that was kept.
+pub(crate) fn end_by<R: Wait>(rows: &Rows, rt: &R, pass: &mut Pass, way: &mut Way, made: bool)
+    requires writing { IsWritingPass rows.now pass.old made }
+    requires free { pass.old.view.holds ≡ [] }
+    requires way { IsWay rows.now.rows pass.old.view way.old }
+{
+    let _ = repair(rows, rt, pass, way);
     leave(rows, pass, made);
 }
 
@@ -177,7 +175,7 @@ fn free_root<R: Wait>(rows: &Rows, rt: &R, pass: &mut Pass, root: RowNo, made: b
 }
 
 // Frees the two rows of a rotation at the root and row 0, and ends a write that made no entry.
-fn free_top<R: Wait>(rows: &Rows, rt: &R, pass: &mut Pass, turn: &Turn)
+pub(crate) fn free_top<R: Wait>(rows: &Rows, rt: &R, pass: &mut Pass, turn: &Turn)
     requires { HoldsTop rows.now pass.old false turn.now.row.row turn.now.raised.row }
 {
     unlock(rows, pass, turn.raised.row);
@@ -197,7 +195,7 @@ fn unlink_slowly<R: Abort + Wait>(
     requires reader { IsOf reader.old rows.now }
     requires rows { IsWithin rows.now.rows edge.now }
     requires edge { IsEdge pass.old.view edge.now }
-    requires gone { IsGone pass.old.view edge.now.child.row }
+    requires gone { IsUnlinkable pass.old.view edge.now.child.row }
     requires whole { pass.old.view.doing ≡ Nothing }
     ensures reader { IsOf reader.new rows.now }
     ensures unlinked { Unlinks pass.old pass.new edge.now 0 }
@@ -307,17 +305,36 @@ fn put_eighty<R: Abort + Wait>(
     make(rows, rt, &mut pass, &Call::Put { key: 80, value: 80 })
 }
 
-// Begins a write and removes the key, by which the write has its entry, and holds no row.
+// Begins a write and removes the key.
 fn remove<R: Abort + Wait>(rows: &Rows, rt: &R, pass: &mut Pass, key: Key) -> Option<u64>
     requires table { IsOf pass.old rows.now }
     requires idle { IsIdle pass.old.view }
     requires uses { pass.old.view.uses < 2 ^ 48 }
-    ensures writing { IsWriting rows.now pass.new true }
+    ensures writing { IsWritingPass rows.now pass.new true }
     ensures free { pass.new.view.holds ≡ [] }
 {
-    enter(rows, rt, pass);
     let mut way = Way::none();
-    write(rows, rt, pass, &Call::Remove { key }, &mut way).expect(rt, "no row is left")
+    begin_write(rows, rt, pass, &Call::Remove { key }, &mut way)
+}
+
+// Begins a write and makes its entry. It holds no row then, and has yet to repair.
+pub(crate) fn begin_write<R: Abort + Wait>(
+    rows: &Rows,
+    rt: &R,
+    pass: &mut Pass,
+    call: &Call,
+    way: &mut Way,
+) -> Option<u64>
+    requires table { IsOf pass.old rows.now }
+    requires idle { IsIdle pass.old.view }
+    requires uses { pass.old.view.uses < 2 ^ 48 }
+    requires value { FitsWord call.now }
+    ensures writing { IsWritingPass rows.now pass.new true }
+    ensures free { pass.new.view.holds ≡ [] }
+    ensures way { IsWay rows.now.rows pass.new.view way.new }
+{
+    enter(rows, rt, pass);
+    write(rows, rt, pass, call, way).expect(rt, "no row is left")
 }
 
 fn stop_in_unlinking<R: Abort + Wait>(
@@ -349,7 +366,7 @@ fn unlink_root<R: Abort>(rows: &Rows, rt: &R, pass: &mut Pass, reader: &mut Pass
     requires reader { IsOf reader.old rows.now }
     requires rows { IsWithin rows.now.rows edge.now }
     requires edge { IsEdge pass.old.view edge.now }
-    requires gone { IsGone pass.old.view edge.now.child.row }
+    requires gone { IsUnlinkable pass.old.view edge.now.child.row }
     requires whole { pass.old.view.doing ≡ Nothing }
     ensures reader { IsOf reader.new rows.now }
     ensures unlinked { Unlinks pass.old pass.new edge.now 0 }
@@ -390,31 +407,13 @@ fn rotate_root<R: Abort>(rows: &Rows, rt: &R, pass: &mut Pass, reader: &mut Pass
     ensures reader { IsOf reader.new rows.now }
     ensures turned { Rotates pass.old pass.new turn.now }
 {
-    let (parent_side, side, across) = (turn.parent_side, turn.side, turn.side.other());
-    let (upper, lower, upward) = (turn.parent.row, turn.row.row, turn.raised.row);
-    let (key, stamp) = (turn.row.key, turn.row.stamp);
-    let raised = turn.raised;
-    let middle = child_of(rows, pass, &raised, across);
-    mark_shrinking(
-        rows,
-        pass,
-        upper,
-        parent_side,
-        lower,
-        side,
-        upward,
-        stamp,
-        key,
-    );
+    let middle = begin_turn(rows, pass, turn);
     let busy = Err(Busy {
         left: 2,
         entered: 3,
     });
     is(rt, try_get(rows, reader, 2), busy);
-    link_lowered(rows, pass, upper, parent_side, lower, side, upward, middle);
-    link_raised(rows, pass, upper, parent_side, lower, side, upward);
-    link_parent(rows, pass, upper, parent_side, lower, side, upward, key);
-    clear_shrinking(rows, pass, lower, stamp + 2);
+    end_turn(rows, pass, turn, middle);
 }
 
 // The row that is to go down is row 1, and row 2 comes up.

@@ -1,5 +1,5 @@
 //! Balance: how deep clones are once puts and removals were repaired.
-ghost use Rattle.std.specs.Prelude.{◌≡◌, ◌+◌, ◌<◌, ◌≤◌};
+ghost use Rattle.std.specs.Prelude.{◌+◌, ◌<◌, ◌≤◌};
 ghost use Rattle.snap_table.specs.Ready.{IsReadyTo};
 
 use crate::asserts::{holds, is};

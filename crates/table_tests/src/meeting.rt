@@ -1,6 +1,6 @@
 //! Two threads whose writes want each other's rows: both put rising keys in turns and remove those behind, so that each
 //! turns rows which the other turns too. Every write ends.
-ghost use Rattle.std.specs.Prelude.{◌≡◌, ◌<◌, ◌≤◌};
+ghost use Rattle.std.specs.Prelude.{◌<◌};
 ghost use Rattle.snap_table.specs.Ready.{IsReadyTo};
 
 use crate::asserts::is;

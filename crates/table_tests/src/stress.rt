@@ -1,6 +1,6 @@
 //! Four threads that put and remove, and make clones between: each clone is settled and shallow, its keys rise, of the
 //! thread's own keys it has what that thread did, and of another's what that had done between two of its writes.
-ghost use Rattle.std.specs.Prelude.{◌≡◌, ◌+◌, ◌*◌, ◌<◌, ◌≤◌};
+ghost use Rattle.std.specs.Prelude.{◌≡◌, ◌+◌, ◌*◌, ◌<◌};
 ghost use Rattle.snap_table.specs.Ready.{IsReadyTo};
 
 use crate::asserts::is;

@@ -1,41 +1,38 @@
-use Rattle.std.proofs.Common.{inl}
-use Rattle.snap_shape.proofs.Shaping.{edge_stays, rotates, turn_of, turns_still, by_side, key_on, stamps_on}
-use Rattle.snap_shape.proofs.Touching.{None, loaded}
-use Rattle.snap_prelude.specs.{link_field, other}
+use Rattle.std.proofs.Common.{ap, refl}
+use Rattle.snap_shape.proofs.Shaping.{key_on, rotates, stamps_on}
+use Rattle.snap_prelude.specs.{Known}
+use Rattle.row_tests.proofs.Begun.{across_read, begun_of}
 use Rattle.row_tests.proofs.stopped.rotate_slowly.Goals as goal
 
-pub mark_shrinking-requires-clause-place : goal.mark_shrinking-requires-clause-place
-mark_shrinking-requires-clause-place g c =
-    let s = loaded c.args.pass.now c.child_of-middle.new.pass c.args.turn.now.raised.row (link_field c.other-across.result) c.child_of-middle.result c.child_of-middle.ensures.pass in
-    turn_of c.child_of-middle.new.pass.view c.args.turn.now.parent c.args.turn.now.row c.args.turn.now.raised c.args.turn.now.parent_side c.args.turn.now.side
-    (edge_stays c.args.pass.now c.child_of-middle.new.pass None c.args.turn.now.parent c.args.turn.now.row c.args.turn.now.parent_side s (λ f h. h) (λ f h. h) c.requires.turn.upper)
-    (edge_stays c.args.pass.now c.child_of-middle.new.pass None c.args.turn.now.row c.args.turn.now.raised c.args.turn.now.side s (λ f h. h) (λ f h. h) c.requires.turn.lower)
-    c.requires.turn.apart
+pub link_lowered-requires-clause-table : goal.link_lowered-requires-clause-table
+link_lowered-requires-clause-table g c = begun_of c.args.rows.now c.args.pass.now c.begin_turn-middle.new.pass c.args.turn.now c.begin_turn-middle.result c.requires.table c.begin_turn-middle.ensures
 
-pub mark_shrinking-requires-clause-aims : goal.mark_shrinking-requires-clause-aims
-mark_shrinking-requires-clause-aims g c = turns_still c.args.pass.now c.child_of-middle.new.pass c.args.turn.now.parent.row c.args.turn.now.row.row c.args.turn.now.raised.row c.args.turn.now.row.key c.args.turn.now.raised.row (link_field c.other-across.result) c.child_of-middle.result c.child_of-middle.ensures.pass (inl (c.requires.turn.upper.below.is_key, inl c.requires.owes))
+pub link_lowered-requires-clause-change : goal.link_lowered-requires-clause-change
+link_lowered-requires-clause-change g c = ap (λ (k : Known). k.view.doing) c.begin_turn-middle.ensures.begun
+
+pub link_lowered-requires-clause-middle : goal.link_lowered-requires-clause-middle
+link_lowered-requires-clause-middle g c = c.begin_turn-middle.ensures.middle_is
 
 pub link_parent-requires-clause-key : goal.link_parent-requires-clause-key
 link_parent-requires-clause-key g c =
-    let a = c.args.pass.now in let b = c.child_of-middle.new.pass in let m = c.mark_shrinking.new.pass in let d = c.link_lowered.new.pass in let e = c.link_raised.new.pass in
-    let row = c.requires.turn.upper.below in
-    key_on a b m d e c.args.turn.now.parent c.args.turn.now.parent_side c.args.turn.now.row c.args.turn.now.side c.args.turn.now.raised c.child_of-middle.result c.args.turn.now.row.key (by_side a b c.args.turn.now.raised c.other-across.result (other c.args.turn.now.side) c.child_of-middle.result c.other-across.ensures c.child_of-middle.ensures.pass) c.mark_shrinking.ensures c.link_lowered.ensures c.link_raised.ensures row
+    let old = c.args.pass.now in let h = c.begin_turn-middle.ensures in let t = c.args.turn.now in let middle = c.begin_turn-middle.result in
+    key_on old (across_read old t middle) c.begin_turn-middle.new.pass c.link_lowered.new.pass c.link_raised.new.pass t.parent t.parent_side t.row t.side t.raised middle t.row.key refl h.begun c.link_lowered.ensures c.link_raised.ensures h.turn.upper.below
 
 pub link_parent-requires-clause-stamps : goal.link_parent-requires-clause-stamps
 link_parent-requires-clause-stamps g c =
-    let a = c.args.pass.now in let b = c.child_of-middle.new.pass in let m = c.mark_shrinking.new.pass in let d = c.link_lowered.new.pass in let e = c.link_raised.new.pass in
-    stamps_on a b m d e c.args.turn.now.parent c.args.turn.now.parent_side c.args.turn.now.row c.args.turn.now.side c.args.turn.now.raised c.child_of-middle.result c.args.turn.now.row.key (by_side a b c.args.turn.now.raised c.other-across.result (other c.args.turn.now.side) c.child_of-middle.result c.other-across.ensures c.child_of-middle.ensures.pass) c.mark_shrinking.ensures c.link_lowered.ensures c.link_raised.ensures c.requires.turn.upper c.requires.turn.lower
+    let old = c.args.pass.now in let h = c.begin_turn-middle.ensures in let t = c.args.turn.now in let middle = c.begin_turn-middle.result in
+    stamps_on old (across_read old t middle) c.begin_turn-middle.new.pass c.link_lowered.new.pass c.link_raised.new.pass t.parent t.parent_side t.row t.side t.raised middle t.row.key refl h.begun c.link_lowered.ensures c.link_raised.ensures h.turn.upper h.turn.lower
 
 pub returns-clause-turned : goal.returns-clause-turned
 returns-clause-turned g c =
-    let a = c.args.pass.now in let b = c.child_of-middle.new.pass in let m = c.mark_shrinking.new.pass in let d = c.link_lowered.new.pass in let e = c.link_raised.new.pass in let f = c.link_parent.new.pass in let z = c.clear_shrinking.new.pass in
-    rotates a b m d e f z c.args.turn.now.parent c.args.turn.now.parent_side c.args.turn.now.row c.args.turn.now.side c.args.turn.now.raised c.child_of-middle.result c.args.turn.now.row.key
+    let old = c.args.pass.now in let h = c.begin_turn-middle.ensures in let t = c.args.turn.now in let middle = c.begin_turn-middle.result in
+    rotates old (across_read old t middle) c.begin_turn-middle.new.pass c.link_lowered.new.pass c.link_raised.new.pass c.link_parent.new.pass c.clear_shrinking.new.pass t.parent t.parent_side t.row t.side t.raised middle t.row.key
     (record {
-      load = by_side a b c.args.turn.now.raised c.other-across.result (other c.args.turn.now.side) c.child_of-middle.result c.other-across.ensures c.child_of-middle.ensures.pass;
-      mark = c.mark_shrinking.ensures;
+      load = refl;
+      mark = h.begun;
       lower = c.link_lowered.ensures;
       lift = c.link_raised.ensures;
       raise = c.link_parent.ensures.pass;
       clear = c.clear_shrinking.ensures;
     })
-    c.requires.turn.upper c.requires.turn.lower c.requires.turn.apart c.link_parent.ensures.listed
+    h.turn.upper h.turn.lower h.turn.apart c.link_parent.ensures.listed

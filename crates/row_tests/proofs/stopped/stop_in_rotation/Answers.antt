@@ -1,6 +1,5 @@
 use Rattle.std.proofs.Common.{ap, false, rules}
-use Rattle.row_tests.proofs.Entering.{entered_mending}
-use Rattle.row_tests.proofs.Freeing.{holds_turn}
+use Rattle.row_tests.proofs.{Entering.entered_mending, Freeing.holds_turn}
 use Rattle.row_tests.proofs.stopped.stop_in_rotation.Goals as goal
 use Rattle.row_tests.specs.Stopping.{MayTurn}
 use Rattle.snap_prelude.specs.{Known}
