@@ -2,7 +2,7 @@
 use Rattle.std.proofs.Common.{◌≡◌, ℕ, List, [], ◌∷◌, ◌++◌, Option, refl, ap, sym, ◌∙◌}
 use Rattle.std.proofs.lemmas.List.{append_assoc, append-nil}
 use Rattle.snap_model.specs.History.{told}
-use Rattle.snap_prelude.specs.{Entry, entry, Known, Put}
+use Rattle.snap_prelude.specs.{Entry, entry_of, Known, Put}
 use Rattle.snap_prelude.proofs.Common.{told_other, told_same}
 use Rattle.snap_search.specs.Prelude.{Reads}
 use Rattle.snap_table.specs.Calls.{Replies}
@@ -16,7 +16,7 @@ told_spared h (e ∷ es) key s =
 
 pub reads_own : (old mid new : Known) (key value : ℕ) (reply answer : Option ℕ) → Replies old mid (Put key value) reply → Reads mid new key answer → ReadsOwn new key value answer
 reads_own old mid new key value reply answer p r =
-    let own : Entry = entry old.view.who (Put key value) reply in
+    let own : Entry = entry_of old.view.who (Put key value) reply in
     let rest : List Entry = r.extends.goes_on.rest in
     record {
       before = p.log;
@@ -25,5 +25,6 @@ reads_own old mid new key value reply answer p r =
       seen = sym r.extends.goes_on.is ∙ ap (λ (l : List Entry). l ++ rest) p.seen ∙ append_assoc p.log (own ∷ []) rest;
       who = sym (ap (λ (k : Known). k.view.who) r.is ∙ ap (λ (k : Known). k.view.who) p.is);
       puts = refl;
+      tells = r.tells;
       alone = λ s. r.tells ∙ ap (λ (l : List Entry). told l key) (sym r.extends.goes_on.is) ∙ told_spared mid.view.seen rest key s ∙ ap (λ (l : List Entry). told l key) p.seen ∙ told_same p.log own;
     }

@@ -1,5 +1,6 @@
 -- What the tour's calls conclude from the map's contracts.
 use Rattle.std.specs.Prelude.{◌≡◌, ◌≢◌, ℕ, ◌<◌, List, [], ◌∷◌, ◌++◌, Option, Some, map, length}
+use Rattle.snap_model.specs.History.{told}
 use Rattle.snap_prelude.specs.{after, at, Begins, Call, call_key, calls_of}
 use Rattle.snap_prelude.specs.{Cloned, Ended, Entry, Extends, IsLegal, Known, Put}
 
@@ -12,8 +13,8 @@ Spares key (e ∷ es) = (key ≢ call_key e.call) × Spares key es
 abbrev pub calls_made : Known → List Call
 calls_made pass = map (λ (e : Entry). e.call) pass.view.mine
 
--- the pass's put of this value stands in what it has seen; unless another entry at the key came
--- behind it, the answer is this value
+-- the pass's put of this value stands in what it has seen, and the answer is that of the map after
+-- this: the value, unless another entry at the key came behind the put
 pub record ReadsOwn (pass : Known) (key value : ℕ) (answer : Option ℕ) : Type 0 where
   pub before : List Entry
   pub own : Entry
@@ -21,6 +22,7 @@ pub record ReadsOwn (pass : Known) (key value : ℕ) (answer : Option ℕ) : Typ
   pub seen : pass.view.seen ≡ before ++ own ∷ since
   pub who : own.who ≡ pass.view.who
   pub puts : own.call ≡ Put key value
+  pub tells : answer ≡ told pass.view.seen key
   pub alone : Spares key since → answer ≡ Some value
 
 -- a clone answers as the map stood when it was made: behind all that the pass had seen and done,

@@ -8,6 +8,8 @@ use snap_model::{Key, OutOfMemory};
 use snap_table::{Front, Full, Pass, SnapTable, TableView};
 use std::alloc::Global;
 use std::sync::Wait;
+use std::thread;
+use std::thread::Threads;
 
 /// An empty table of 64 rows, with two passes.
 pub fn open_for_two(alloc: Global) -> Result<(SnapTable, Pass, Pass), OutOfMemory>
@@ -46,24 +48,55 @@ pub struct Keys {
     pub read: Key,
 }
 
+/// What one thread's work came to: its pass, and what it read at the end.
+#[derive(Drop)]
+pub struct Worked {
+    pub pass: Pass,
+    pub answer: Option<u64>,
+}
+
 /// One thread's work: three keys are put, one of them is taken out again, and the last is read.
-pub fn work<R: Wait>(
-    table: &SnapTable,
-    rt: &R,
-    mut pass: Pass,
-    keys: Keys,
-) -> Result<(Pass, Option<u64>), Full>
+pub fn work<R: Wait>(table: &SnapTable, rt: &R, mut pass: Pass, keys: Keys) -> Result<Worked, Full>
     requires { IsReadyTo table.now pass.view.who 0 pass }
-    ensures ready { IfOk result (λ r. IsReadyTo table.now pass.view.who 4 r.0) }
-    ensures made { IfOk result (λ r. calls_made r.0 ≡ calls_made pass
+    ensures ready { IfOk result (λ done. IsReadyTo table.now pass.view.who 4 done.pass) }
+    ensures made { IfOk result (λ done. calls_made done.pass ≡ calls_made pass
         ++ Put keys.kept 10 ∷ Put keys.gone 20 ∷ Remove keys.gone ∷ Put keys.read 30 ∷ []) }
-    ensures own { IfOk result (λ r. ReadsOwn r.0 keys.read 30 r.1) }
+    ensures own { IfOk result (λ done. ReadsOwn done.pass keys.read 30 done.answer) }
 {
     table.put(rt, &mut pass, keys.kept, 10)?;
     table.put(rt, &mut pass, keys.gone, 20)?;
     table.remove(rt, &mut pass, keys.gone)?;
     let answer = put_and_get(table, rt, &mut pass, keys.read, 30)?;
-    Ok((pass, answer))
+    Ok(Worked { pass, answer })
+}
+
+/// Two threads' work, each at keys of its own.
+pub fn work_by_two<R: Threads + Wait + Sync>(
+    table: &SnapTable,
+    rt: &R,
+    first: Pass,
+    second: Pass,
+) -> (Result<Worked, Full>, Result<Worked, Full>)
+    requires first { IsReadyTo table.now first.view.who 0 first }
+    requires second { IsReadyTo table.now second.view.who 0 second }
+    ensures first { IfOk result.0 (λ done. IsReadyTo table.now first.view.who 4 done.pass) }
+    ensures second { IfOk result.1 (λ done. IsReadyTo table.now second.view.who 4 done.pass) }
+{
+    let odd = Keys {
+        kept: 1,
+        gone: 3,
+        read: 5,
+    };
+    let even = Keys {
+        kept: 2,
+        gone: 4,
+        read: 6,
+    };
+    thread::join(
+        rt,
+        || work(table, rt, first, odd),
+        || work(table, rt, second, even),
+    )
 }
 
 /// Hands what one pass has seen to another: whatever that answers from then on, it answers behind it.
@@ -90,6 +123,8 @@ pub fn clone_and_put<'t, R: Wait>(
     requires ready { IsReadyTo table.now pass.old.view.who 4 pass.old }
     requires value { value + 1 < 2 ^ 64 }
     ensures stood { IfOk result (λ r. AnswersAsItStood pass.old pass.new r.0 key r.1) }
+    ensures made { IfOk result (λ _. calls_made pass.new
+        ≡ calls_made pass.old ++ Put key value ∷ []) }
     ensures ready { IsReadyTo table.now pass.old.view.who 6 pass.new }
 {
     let mut clone = table.clone_view(rt, pass);

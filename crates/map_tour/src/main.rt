@@ -2,54 +2,83 @@
 //! with its ordered answers, and the end of the table. It prints the same whatever the threads do.
 #![tactic(auto)]
 
+ghost use Rattle.std.specs.Prelude.{IfOk, OnOk};
+ghost use Rattle.snap_table.specs.Ready.{IsReadyTo};
+
 mod calls;
 mod fault;
 mod short;
 
-use calls::{Keys, clone_and_put, close, hand_on, open_for_two, work};
+use calls::{clone_and_put, close, hand_on, open_for_two, work_by_two};
 use fault::Fault;
 use short::in_short;
-use snap_table::TableView;
+use snap_table::{Pass, SnapTable, TableView};
 use std::io::Print;
-use std::thread;
+use std::sync::Wait;
+use std::thread::Threads;
 
 fn main(rt: HostRuntime) -> Result<(), Fault> {
     in_short(&rt, rt.alloc())?;
 
     let (table, first, second) = open_for_two(rt.alloc())?;
-    let odd = Keys {
-        kept: 1,
-        gone: 3,
-        read: 5,
-    };
-    let even = Keys {
-        kept: 2,
-        gone: 4,
-        read: 6,
-    };
-    let (one, two) = thread::join(
-        &rt,
-        || work(&table, &rt, first, odd),
-        || work(&table, &rt, second, even),
-    );
-    let ((mut first, of_first), (mut second, of_second)) = (one?, two?);
-    println!(rt; "the threads read {of_first:?} and {of_second:?}")?;
-
-    hand_on(&table, &mut first, &mut second);
-    let (one, three) = (
-        table.get(&rt, &mut second, 1),
-        table.get(&rt, &mut second, 3),
-    );
-    println!(rt; "behind the note: 1 has {one:?}, 3 has {three:?}")?;
-
-    let (mut clone, stood) = clone_and_put(&table, &rt, &mut second, 6, 60)?;
-    let now = table.get(&rt, &mut second, 6);
-    println!(rt; "6 has {now:?}, and in the clone {stood:?}")?;
-    show(&rt, &mut clone)?;
-    clone.release();
-
+    let (first, second) = tour(&rt, &table, first, second)?;
     let front = close(table, first, second);
     println!(rt; "writes {}, pairs {}", front.writes, front.pairs)?;
+    Ok(())
+}
+
+// All but the end: threads, a note, a clone. The passes are handed back for it.
+fn tour<R: Threads + Wait + Print + Sync>(
+    rt: &R,
+    table: &SnapTable,
+    first: Pass,
+    second: Pass,
+) -> Result<(Pass, Pass), Fault>
+    requires first { IsReadyTo table.now 0 0 first }
+    requires second { IsReadyTo table.now 1 0 second }
+    ensures first { IfOk result (λ ended. IsReadyTo table.now 0 6 ended.0) }
+    ensures second { IfOk result (λ ended. IsReadyTo table.now 1 6 ended.1) }
+{
+    let (one, two) = work_by_two(table, rt, first, second);
+    let (mut one, mut two) = (one?, two?);
+    println!(rt; "the threads read {:?} and {:?}", one.answer, two.answer)?;
+    ask_behind_note(rt, table, &mut one.pass, &mut two.pass)?;
+    ask_beside_clone(rt, table, &mut two.pass)?;
+    Ok((one.pass, two.pass))
+}
+
+// What the second pass reads once it has a note of the first one.
+fn ask_behind_note<R: Wait + Print>(
+    rt: &R,
+    table: &SnapTable,
+    first: &mut Pass,
+    second: &mut Pass,
+) -> Result<(), Fault>
+    requires first { IsReadyTo table.now 0 4 first.old }
+    requires second { IsReadyTo table.now 1 4 second.old }
+    ensures first { IsReadyTo table.now 0 4 first.new }
+    ensures second { IsReadyTo table.now 1 4 second.new }
+{
+    hand_on(table, first, second);
+    let (one, three) = (table.get(rt, second, 1), table.get(rt, second, 3));
+    println!(rt; "behind the note: 1 has {one:?}, 3 has {three:?}")?;
+    Ok(())
+}
+
+// A clone beside a put behind it.
+fn ask_beside_clone<R: Wait + Print>(
+    rt: &R,
+    table: &SnapTable,
+    pass: &mut Pass,
+) -> Result<(), Fault>
+    requires { IsReadyTo table.now 1 4 pass.old }
+    ensures { OnOk result (IsReadyTo table.now 1 6 pass.new) }
+{
+    let (mut clone, stood) = clone_and_put(table, rt, pass, 6, 60)?;
+    let now = table.get(rt, pass, 6);
+    println!(rt; "6 has {now:?}, and in the clone {stood:?}")?;
+    show(rt, &mut clone)?;
+    clone.release();
     Ok(())
 }
 
