@@ -1,22 +1,23 @@
 //! Cases as one text: each is a script, `~`, and what is shown of its replies and exports; `|` stands between them. One
 //! loop checks them all, so that a further case costs the proof nothing.
-ghost use Rattle.std.specs.Prelude.{◌≡◌, ◌≢◌, ◌≤◌, AllPairs, IfOk, length};
+ghost use Rattle.std.specs.Prelude.{◌≢◌, ◌≤◌, AllPairs, IfOk};
 ghost use Rattle.snap_service.specs.Prelude.{AreSeated};
 
 use snap_model::{Command, Name, OutOfMemory, Reply};
 use snap_service::{Kit, Loads, Service, Session};
-use snap_text::{read_pairs, read_script};
+use snap_text::{MOST_ROWS, read_pairs, read_script};
 use std::alloc::Global;
 use std::fmt;
 use std::process::Abort;
 use std::sync::Wait;
 
+// Where a session has so many uses, it takes no command more.
 const MOST_USES: u64 = 140_737_488_355_328;
 
 /// Checks each case, each on two tables of its own, `main` and `t`, with so many rows, and answers how many there are.
 pub(crate) fn hold<R: Wait + Abort>(rt: &R, alloc: Global, rows: u32, cases: &[u8]) -> usize
     requires a_row { 1 ≤ rows }
-    requires few_rows { rows ≤ 1048576 }
+    requires few_rows { rows ≤ MOST_ROWS }
 {
     let mut count = 0usize;
     for case in cases.split(|byte| *byte == b'|') {
@@ -28,7 +29,7 @@ pub(crate) fn hold<R: Wait + Abort>(rt: &R, alloc: Global, rows: u32, cases: &[u
 
 fn holds_case<R: Wait + Abort>(rt: &R, alloc: Global, rows: u32, case: &[u8])
     requires a_row { 1 ≤ rows }
-    requires few_rows { rows ≤ 1048576 }
+    requires few_rows { rows ≤ MOST_ROWS }
 {
     let end = case.iter().position(|byte| *byte == b'~');
     let (script, rest) = case.split_at(end.unwrap_or(case.len()));
@@ -45,7 +46,7 @@ fn shown<R: Wait + Abort>(
     script: &[u8],
 ) -> Result<Vec<u8>, OutOfMemory>
     requires a_row { 1 ≤ rows }
-    requires few_rows { rows ≤ 1048576 }
+    requires few_rows { rows ≤ MOST_ROWS }
 {
     let (service, kit) = opened(rt, alloc, rows)?;
     let Ok(mut session) = Session::open(alloc, &service, kit) else {
@@ -61,7 +62,7 @@ pub(crate) fn opened<R: Abort>(
     rows: u32,
 ) -> Result<(Service, Kit), OutOfMemory>
     requires a_row { 1 ≤ rows }
-    requires few_rows { rows ≤ 1048576 }
+    requires few_rows { rows ≤ MOST_ROWS }
     ensures { IfOk result (λ opened. AreSeated opened.0 opened.1) }
 {
     let names = two_names(rt, alloc)?;

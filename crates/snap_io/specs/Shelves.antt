@@ -26,6 +26,14 @@ Changes None (Some new) rule = ⊥
 Changes (Some old) None rule = ⊥
 Changes (Some old) (Some new) rule = rule old new
 
+-- what calls that only read leave of a shelf: files and the count of failed writes stay, and that of
+-- failed reads never falls
+pub record OnlyReads {S : Type 0} (files : S → Option Files) (read_faults write_faults : S → ℕ)
+    (old new : S) : Type 0 where
+  pub later : read_faults old ≤ read_faults new
+  pub same_files : files new ≡ files old
+  pub same_writes : write_faults new ≡ write_faults old
+
 -- the files are told, and no file has the name
 abbrev pub IsAbsent : Option Files → List ℕ → Type 0
 IsAbsent None name = ⊥

@@ -4,7 +4,7 @@ ghost use Rattle.std.specs.Option.{option_copied};
 ghost use Rattle.snap_io.specs.Causes.{HasCause, HasCauseOr, raised_if};
 ghost use Rattle.snap_io.specs.MemShelf.{held_files, faults_of, no_failures, plans_of, read_faults_of, stored_files, write_faults_of, with_failure};
 ghost use Rattle.snap_io.specs.Plan.{with_call, fails_next};
-ghost use Rattle.snap_io.specs.Shelves.{Appends, Changes, Creates, Gives, IsAbsent, OfFile, ReadsFrom, Sets, Sizes};
+ghost use Rattle.snap_io.specs.Shelves.{Appends, Changes, Creates, Gives, IsAbsent, OfFile, OnlyReads, ReadsFrom, Sets, Sizes};
 
 use crate::plan::Plan;
 use crate::{Failed, Shelf};
@@ -117,10 +117,10 @@ impl Shelf for MemShelf {
 
     fn size(&mut self, name: &str) -> Result<u64, Failed>
         ensures length { Sizes (Some (held_files self.old)) name.now result }
-        ensures files { held_files self.new ≡ held_files self.old }
         ensures cause { HasCauseOr (IsAbsent (Some (held_files self.old)) name.now)
             (read_faults_of self.old) (read_faults_of self.new) result }
-        ensures other { write_faults_of self.new ≡ write_faults_of self.old }
+        ensures only_reads { OnlyReads (λ s. Some (held_files s)) read_faults_of write_faults_of
+            self.old self.new }
 
         // It fails where that is planned, which is a fault, or where the file is absent, and else never.
         ensures answered { is_ok result
@@ -143,10 +143,10 @@ impl Shelf for MemShelf {
     fn read(&mut self, name: &str, at: u64, into: &mut [u8]) -> Result<usize, Failed>
         ensures bound { IfOk result (λ n. n ≤ length into.new) }
         ensures bytes { ReadsFrom (Some (held_files self.old)) name.now at result into.new }
-        ensures files { held_files self.new ≡ held_files self.old }
         ensures cause { HasCauseOr (IsAbsent (Some (held_files self.old)) name.now)
             (read_faults_of self.old) (read_faults_of self.new) result }
-        ensures other { write_faults_of self.new ≡ write_faults_of self.old }
+        ensures only_reads { OnlyReads (λ s. Some (held_files s)) read_faults_of write_faults_of
+            self.old self.new }
 
         // It gives as many bytes as are there and fit, and fails as `size` does.
         ensures full { IfOk result

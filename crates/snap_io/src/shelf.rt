@@ -1,7 +1,7 @@
 //! Files by name, as a trait: what a run may ask of the outside, and what each call does to files where they are told.
 ghost use Rattle.std.specs.Prelude.{◌≡◌, ◌≤◌, ℕ, Option, IfOk, length};
 ghost use Rattle.snap_io.specs.Causes.{HasCause, HasCauseOr};
-ghost use Rattle.snap_io.specs.Shelves.{Appends, Changes, Creates, Files, IsAbsent, ReadsFrom, Sizes};
+ghost use Rattle.snap_io.specs.Shelves.{Appends, Changes, Creates, Files, IsAbsent, OnlyReads, ReadsFrom, Sizes};
 
 use crate::Failed;
 
@@ -22,20 +22,18 @@ pub trait Shelf {
     /// The length of a file in bytes. An absent file is refused.
     fn size(&mut self, name: &str) -> Result<u64, Failed>
         ensures length { Sizes (files self.old) name.now result }
-        ensures files { files self.new ≡ files self.old }
         ensures cause { HasCauseOr (IsAbsent (files self.old) name.now) (read_faults self.old)
             (read_faults self.new) result }
-        ensures other { write_faults self.new ≡ write_faults self.old };
+        ensures only_reads { OnlyReads files read_faults write_faults self.old self.new };
 
     /// Copies bytes of a file, from `at` on, to the front of `into`, and answers how many: 0 only at the file's end
     /// or where `into` is empty. An absent file is refused.
     fn read(&mut self, name: &str, at: u64, into: &mut [u8]) -> Result<usize, Failed>
         ensures bound { IfOk result (λ n. n ≤ length into.new) }
         ensures bytes { ReadsFrom (files self.old) name.now at result into.new }
-        ensures files { files self.new ≡ files self.old }
         ensures cause { HasCauseOr (IsAbsent (files self.old) name.now) (read_faults self.old)
             (read_faults self.new) result }
-        ensures other { write_faults self.new ≡ write_faults self.old };
+        ensures only_reads { OnlyReads files read_faults write_faults self.old self.new };
 
     /// Makes the file, or empties the one that is there. After a failure it is as before, or empty.
     fn create(&mut self, name: &str) -> Result<(), Failed>

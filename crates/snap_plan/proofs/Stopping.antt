@@ -1,8 +1,7 @@
 -- The stops of a step as those of a longer one.
 use Rattle.std.specs.Prelude.{IfErr, IsErrAnd, IsTrue}
-use Rattle.std.proofs.Common.{◌≡◌, ◌≤◌, ◌⊎◌, ℕ, true, List, Option, Some, None, Result, Ok, Err, sym, subst, inl, inr, arith}
-use Rattle.snap_io.specs.Causes.{Rose}
-use Rattle.snap_io.specs.Shelves.{Files, IfTold}
+use Rattle.std.proofs.Common.{◌≡◌, ◌≤◌, ◌⊎◌, ℕ, true, List, Option, Some, None, Result, Ok, Err, ◌∙◌, sym, subst, inl, inr, arith}
+use Rattle.snap_io.specs.Prelude.{Files, IfTold, OnlyReads, Rose}
 use Rattle.snap_plan.specs.declared.stop.Stop.{Stop}
 use Rattle.snap_plan.specs.declared.stop.Stop.TheVariants as stop
 use Rattle.snap_plan.specs.Needs.{among}
@@ -11,6 +10,15 @@ use Rattle.snap_plan.specs.Stops.{IsBlindStop, IsPastReading, IsPastWords, IsSto
 -- a count that rose in a part of the time rose in all of it
 pub rose_behind : (a b c : ℕ) → a ≤ b → Rose b c → Rose a c
 rose_behind a b c later rose = omega arith
+
+-- calls one after another that only read
+pub read_on : {S : Type 0} {files : S → Option Files} {read_faults write_faults : S → ℕ} {a b c : S} → OnlyReads files read_faults write_faults a b → OnlyReads files read_faults write_faults b c
+    → OnlyReads files read_faults write_faults a c
+read_on before after = record {
+  later = omega (arith, before.later, after.later);
+  same_files = after.same_files ∙ before.same_files;
+  same_writes = after.same_writes ∙ before.same_writes;
+}
 
 pub memory_stops : {A : Type 0} (files : Option Files) (wanted : Files → Result A Stop) (names : Files → List (List ℕ)) (rose : Type 0) → StopsBy files wanted names rose stop.Memory
 memory_stops None wanted names rose = tt

@@ -1,8 +1,7 @@
 //! The top of the crate: words lead to a plan, or to the first thing by which the run is stopped.
 ghost use Rattle.std.specs.Prelude.{◌≡◌, ◌≤◌, ◌++◌, [], false, Ok, IfOk, IfErr, IsErr, MatchResult, length, map};
 ghost use Rattle.std.specs.String.{string_bytes};
-ghost use Rattle.snap_io.specs.Causes.{Rose};
-ghost use Rattle.snap_io.specs.Shelves.{IfTold};
+ghost use Rattle.snap_io.specs.Prelude.{IfTold, OnlyReads, Rose};
 ghost use Rattle.snap_words.specs.Outputs.{has_twice, outputs, reply_name};
 ghost use Rattle.snap_words.specs.Words.{IsWithinLimits, job_of, most_rows, most_scripts};
 ghost use Rattle.snap_plan.specs.Endings.{IsFor, IsForJob, OfMade, OfMadeWork, ending_of, inputs_for, inputs_of, made_plan, plan_for, plan_of_scripts};
@@ -37,9 +36,7 @@ pub fn accept<S: Shelf>(alloc: Global, words: &[String], shelf: &mut S) -> Resul
         (λ made. (shelf.new ≡ shelf.old)
         × MatchResult result (λ plan. plan ≡ made) (λ stop. stop ≡ Stop.Memory)) }
 
-    ensures later { S.read_faults shelf.old ≤ S.read_faults shelf.new }
-    ensures files { S.files shelf.new ≡ S.files shelf.old }
-    ensures writes { S.write_faults shelf.new ≡ S.write_faults shelf.old }
+    ensures only_reads { OnlyReads S.files S.read_faults S.write_faults shelf.old shelf.new }
 {
     let job = read_words(alloc, words)?;
     accept_job(alloc, job, shelf)
@@ -62,9 +59,7 @@ fn accept_job<S: Shelf>(alloc: Global, job: Job, shelf: &mut S) -> Result<Plan, 
         (λ made. (shelf.new ≡ shelf.old)
         × MatchResult result (λ plan. plan ≡ made) (λ stop. stop ≡ Stop.Memory)) }
 
-    ensures later { S.read_faults shelf.old ≤ S.read_faults shelf.new }
-    ensures files { S.files shelf.new ≡ S.files shelf.old }
-    ensures writes { S.write_faults shelf.new ≡ S.write_faults shelf.old }
+    ensures only_reads { OnlyReads S.files S.read_faults S.write_faults shelf.old shelf.new }
 {
     let Job { rows, last, work } = job;
     match work {
@@ -102,9 +97,7 @@ fn accept_scripts<S: Shelf>(
         (inputs_for last (Work.Scripts names))
         (Rose (S.read_faults shelf.old) (S.read_faults shelf.new))) }
 
-    ensures later { S.read_faults shelf.old ≤ S.read_faults shelf.new }
-    ensures files { S.files shelf.new ≡ S.files shelf.old }
-    ensures writes { S.write_faults shelf.new ≡ S.write_faults shelf.old }
+    ensures only_reads { OnlyReads S.files S.read_faults S.write_faults shelf.old shelf.new }
 {
     let scripts = read_scripts(alloc, shelf, names.list())?;
     let outputs = output_names(alloc, names.list(), &last)?;

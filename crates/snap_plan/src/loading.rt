@@ -1,7 +1,6 @@
 //! Scripts and load files, from the shelf to what they mean: all are read first, and then taken one after another.
-ghost use Rattle.std.specs.Prelude.{◌≡◌, ◌≢◌, ◌≤◌, Ok, All, AllPairs, IfOk, IfErr, length, map};
-ghost use Rattle.snap_io.specs.Causes.{Rose};
-ghost use Rattle.snap_io.specs.Shelves.{IfTold};
+ghost use Rattle.std.specs.Prelude.{◌≡◌, ◌≢◌, Ok, All, AllPairs, IfOk, IfErr, length, map};
+ghost use Rattle.snap_io.specs.Prelude.{IfTold, OnlyReads, Rose};
 ghost use Rattle.snap_plan.specs.Inputs.{loads_in, scripts_in};
 ghost use Rattle.snap_plan.specs.Runnable.{AllInRange, IsScript};
 ghost use Rattle.snap_plan.specs.Stops.{IsPastWords, StopsBy};
@@ -11,14 +10,8 @@ use crate::reading::read_all;
 use crate::{ScriptList, Stop};
 use snap_io::Shelf;
 use snap_model::Name;
-use snap_text::Loads;
+use snap_text::{Loads, MOST_LOAD_BYTES, MOST_SCRIPT_BYTES};
 use std::alloc::Global;
-
-/// The most bytes of a script.
-const MOST_SCRIPT_BYTES: u64 = 4_194_304;
-
-/// The most bytes of a load file.
-const MOST_LOAD_BYTES: u64 = 16_777_216;
 
 /// Reads scripts in their order, and then parses them.
 pub fn read_scripts<S: Shelf>(
@@ -34,11 +27,9 @@ pub fn read_scripts<S: Shelf>(
     ensures stops { IfErr result
         (StopsBy (S.files shelf.old) (λ f. scripts_in f names.now) (λ f. names.now)
         (Rose (S.read_faults shelf.old) (S.read_faults shelf.new))) }
-    ensures later { S.read_faults shelf.old ≤ S.read_faults shelf.new }
-    ensures files { S.files shelf.new ≡ S.files shelf.old }
-    ensures writes { S.write_faults shelf.new ≡ S.write_faults shelf.old }
+    ensures only_reads { OnlyReads S.files S.read_faults S.write_faults shelf.old shelf.new }
 {
-    let inputs = read_all(alloc, shelf, names, MOST_SCRIPT_BYTES)?;
+    let inputs = read_all(alloc, shelf, names, MOST_SCRIPT_BYTES as u64)?;
     parse_scripts(alloc, &inputs)
 }
 
@@ -53,10 +44,8 @@ pub fn read_loads<S: Shelf>(alloc: Global, shelf: &mut S, names: &[Name]) -> Res
     ensures stops { IfErr result
         (StopsBy (S.files shelf.old) (λ f. loads_in f names.now) (λ f. names.now)
         (Rose (S.read_faults shelf.old) (S.read_faults shelf.new))) }
-    ensures later { S.read_faults shelf.old ≤ S.read_faults shelf.new }
-    ensures files { S.files shelf.new ≡ S.files shelf.old }
-    ensures writes { S.write_faults shelf.new ≡ S.write_faults shelf.old }
+    ensures only_reads { OnlyReads S.files S.read_faults S.write_faults shelf.old shelf.new }
 {
-    let inputs = read_all(alloc, shelf, names, MOST_LOAD_BYTES)?;
+    let inputs = read_all(alloc, shelf, names, MOST_LOAD_BYTES as u64)?;
     parse_loads(alloc, &inputs)
 }

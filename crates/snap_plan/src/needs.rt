@@ -8,16 +8,10 @@ ghost use Rattle.snap_plan.specs.Walks.{AddsNeeds, HasNeeds, PassesAt};
 
 use crate::Stop;
 use snap_model::{Command, Name, OutOfMemory};
-use snap_text::{Line, Script};
+use snap_text::{Line, MOST_LOADS, MOST_TABLES, Script};
 use snap_words::NameList;
 use std::alloc::Global;
 use std::collections::BTreeSet;
-
-/// The most tables of a run.
-const MOST_TABLES: usize = 8;
-
-/// The most load files of a run.
-const MOST_LOADS: usize = 8;
 
 /// A limit of a run.
 #[derive(Clone, Copy, Debug, PartialEq, Eq)]

@@ -1,7 +1,7 @@
 //! Files are read whole, in pieces, to the size that was told and no further; one that is too long is not read.
 ghost use Rattle.std.specs.Prelude.{◌≡◌, ◌<◌, ◌≤◌, ◌+◌, ◌⊎◌, ◌++◌, [], ◌∷◌, Ok, Err, None, false, true, length, map, option_map, vec_len, IfOk, IfErr, OnOk};
-ghost use Rattle.snap_io.specs.Causes.{Rose};
-ghost use Rattle.snap_io.specs.Shelves.{IfTold, IsAbsent, Sizes};
+ghost use Rattle.snap_io.specs.Prelude.{IfTold, OnlyReads, Rose};
+ghost use Rattle.snap_io.specs.Shelves.{IsAbsent, Sizes};
 ghost use Rattle.snap_plan.specs.Inputs.{inputs_in};
 ghost use Rattle.snap_plan.specs.Reading.{IsFront, IsRead, IsSize, IsWhole};
 ghost use Rattle.snap_plan.specs.Stops.{IsPastWords, IsUnread, StopsBy};
@@ -74,9 +74,7 @@ pub fn read_all<S: Shelf>(
     ensures stops { IfErr result
         (StopsBy (S.files shelf.old) (λ f. inputs_in most f names.now) (λ f. names.now)
         (Rose (S.read_faults shelf.old) (S.read_faults shelf.new))) }
-    ensures later { S.read_faults shelf.old ≤ S.read_faults shelf.new }
-    ensures files { S.files shelf.new ≡ S.files shelf.old }
-    ensures writes { S.write_faults shelf.new ≡ S.write_faults shelf.old }
+    ensures only_reads { OnlyReads S.files S.read_faults S.write_faults shelf.old shelf.new }
 {
     let mut inputs = Vec::new(alloc);
     for name in names {
@@ -99,9 +97,7 @@ fn read_input<S: Shelf>(alloc: Global, shelf: &mut S, name: &Name, most: u64) ->
     ensures stops { IfErr result
         (IsUnread name.now (S.files shelf.old)
         (Rose (S.read_faults shelf.old) (S.read_faults shelf.new))) }
-    ensures later { S.read_faults shelf.old ≤ S.read_faults shelf.new }
-    ensures files { S.files shelf.new ≡ S.files shelf.old }
-    ensures writes { S.write_faults shelf.new ≡ S.write_faults shelf.old }
+    ensures only_reads { OnlyReads S.files S.read_faults S.write_faults shelf.old shelf.new }
 {
     let file = Name::new(alloc, name.text())?;
     match read_file(alloc, shelf, name.text(), most) {
@@ -123,9 +119,7 @@ fn read_file<S: Shelf>(
     ensures failed { result ≡ Err ReadFault.Failed
         → Rose (S.read_faults shelf.old) (S.read_faults shelf.new)
         ⊎ IsAbsent (S.files shelf.old) name.now }
-    ensures later { S.read_faults shelf.old ≤ S.read_faults shelf.new }
-    ensures files { S.files shelf.new ≡ S.files shelf.old }
-    ensures writes { S.write_faults shelf.new ≡ S.write_faults shelf.old }
+    ensures only_reads { OnlyReads S.files S.read_faults S.write_faults shelf.old shelf.new }
 {
     let size = shelf.size(name)?;
     if size > most {
@@ -148,9 +142,7 @@ fn read_bytes<S: Shelf>(
     ensures failed { result ≡ Err ReadFault.Failed
         → Rose (S.read_faults shelf.old) (S.read_faults shelf.new)
         ⊎ IsAbsent (S.files shelf.old) name.now }
-    ensures later { S.read_faults shelf.old ≤ S.read_faults shelf.new }
-    ensures files { S.files shelf.new ≡ S.files shelf.old }
-    ensures writes { S.write_faults shelf.new ≡ S.write_faults shelf.old }
+    ensures only_reads { OnlyReads S.files S.read_faults S.write_faults shelf.old shelf.new }
 {
     let mut bytes = Vec::new(alloc);
     let mut buffer = vec![in alloc; 0u8; size.min(PIECE) as usize]?;
@@ -180,9 +172,7 @@ fn read_more<S: Shelf>(
     ensures failed { result ≡ Err ReadFault.Failed
         → Rose (S.read_faults shelf.old) (S.read_faults shelf.new)
         ⊎ IsAbsent (S.files shelf.old) name.now }
-    ensures later { S.read_faults shelf.old ≤ S.read_faults shelf.new }
-    ensures files { S.files shelf.new ≡ S.files shelf.old }
-    ensures writes { S.write_faults shelf.new ≡ S.write_faults shelf.old }
+    ensures only_reads { OnlyReads S.files S.read_faults S.write_faults shelf.old shelf.new }
 {
     let at = bytes.len() as u64;
     let got = shelf.read(name, at, piece)?;

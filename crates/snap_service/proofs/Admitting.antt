@@ -2,21 +2,15 @@
 use Rattle.std.proofs.Common.{◌≡◌, ◌≢◌, ◌<◌, ◌+◌, ℕ, Bool, List, [], ◌∷◌, ◌++◌, length, Option, inl, inr, refl, ap, sym, ◌∙◌, subst, arith, ◌||◌}
 use Rattle.snap_prelude.proofs.Common.{dite, get_or-set_other, get_or-set_same}
 use Rattle.snap_prelude.proofs.Common.{length-set, slice_get-get_or, ℕ_discrete}
-use Rattle.snap_fits.specs.Sessions.{Served, AgreesAt}
-use Rattle.snap_fits.specs.Fits.{matching_after, start}
-use Rattle.snap_fits.proofs.Prefixes.{begins_trans}
-use Rattle.snap_fits.proofs.Runs.{served_ends}
+use Rattle.snap_fits.specs.{Sessions.AgreesAt, Sessions.Served, Fits.matching_after, Fits.start}
+use Rattle.snap_fits.proofs.{Prefixes.begins_trans, Runs.served_ends}
 use Rattle.snap_prelude.specs.{Admitted, admitted_of, Begins, Cloned, Command, Ended}
 use Rattle.snap_prelude.specs.{Entry, In, Known, Pairs, Reply, SpeaksForAll, total, View}
-use Rattle.snap_service.specs.Prelude.{Admits, AdmitsAll, AreClosed, AreSeated, AreTables, course}
-use Rattle.snap_service.specs.Prelude.{FitsAll, fronts_of, HasFinal, HasServed, IsCallers}
-use Rattle.snap_service.specs.Prelude.{IsFinal, IsUncut, Joins, JoinsAll, nobody, pass_at}
-use Rattle.snap_service.specs.Prelude.{setting, SpeaksFor, State, table_at, Tables, track}
+use Rattle.snap_service.specs.Prelude.{Admits, AdmitsAll, AreClosed, AreSeated, AreTables, course, FitsAll, fronts_of}
+use Rattle.snap_service.specs.Prelude.{HasFinal, HasServed, IsCallers, IsFinal, IsUncut, Joins, JoinsAll, nobody}
+use Rattle.snap_service.specs.Prelude.{pass_at, SessionState, setting, SpeaksFor, table_at, Tables, track}
 use Rattle.snap_text.specs.LoadFiles.{Loads}
-use Rattle.snap_service.proofs.Covered.{covers_all}
-use Rattle.snap_service.proofs.Notes.{handed_grows}
-use Rattle.snap_service.proofs.Tracks.{or_true}
-use Rattle.snap_service.proofs.Using.{seat_cut, seat_set}
+use Rattle.snap_service.proofs.{Covered.covers_all, Notes.handed_grows, Tracks.or_true, Using.seat_cut, Using.seat_set}
 
 in_front : {X : Type 0} (x : X) (xs ys : List X) → In x xs → In x (xs ++ ys)
 in_front x [] ys i = absurd i
@@ -114,7 +108,7 @@ pub uncut_callers : (tables : Tables) (kit : List Known) → IsUncut tables kit 
 uncut_callers tables kit u = record { last = u.last; noted = λ t l. inl (u.none t l); silent = u.silent }
 
 -- the number of the session's passes
-pub number_is : (loads : Loads) (w : ℕ) (s : State) (cs : List Command) (rs : List Reply) (es : List (List ℕ × Pairs)) → HasServed loads w cs rs es s → (t : ℕ) → t < length s.passes → (pass_at s.passes t).view.who ≡ w
+pub number_is : (loads : Loads) (w : ℕ) (s : SessionState) (cs : List Command) (rs : List Reply) (es : List (List ℕ × Pairs)) → HasServed loads w cs rs es s → (t : ℕ) → t < length s.passes → (pass_at s.passes t).view.who ≡ w
 number_is loads w s cs rs es v t l =
     let a : AgreesAt w ((matching_after (setting s.tables loads) start v.told).places t) ((course w s).passes t) = v.ok.agrees.places t in
     sym (ap (λ (o : Option Known). (track w o).who) (slice_get-get_or s.passes t nobody l)) ∙ a.who

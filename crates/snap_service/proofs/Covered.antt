@@ -1,16 +1,13 @@
 -- What the closed tables tell of a session whose kit was admitted.
 use Rattle.std.proofs.Common.{zero, suc, ◌≡◌, ◌≢◌, ◌≤◌, ◌<◌, ◌+◌, ◌-◌, eq-eqb, ne_eqb, ℕ, Bool, cond, List, [], ◌∷◌, ◌++◌, length, Option, Some, None, inl, inr, refl, ap, sym, ◌∙◌, subst, arith, ◌⊎◌, slice_get}
-use Rattle.snap_prelude.proofs.Common.{dec_lt, dite, one_same, slice_get-get_or}
-use Rattle.snap_prelude.proofs.Common.{slice_get_past, term_le, ℕ_discrete}
+use Rattle.snap_prelude.proofs.Common.{dec_lt, dite, one_same, slice_get-get_or, slice_get_past, term_le, ℕ_discrete}
 use Rattle.snap_fits.specs.Sessions.{Covers}
 use Rattle.snap_fits.proofs.Prefixes.{begins_is, begins_refl}
-use Rattle.snap_prelude.specs.{Admitted, admitted_of, AreTheirs, calls_of, Closes}
-use Rattle.snap_prelude.specs.{Ended, Entry, In, Known, names, numbers, numbers_of}
-use Rattle.snap_prelude.specs.{one_if, own_number, Passing, times, total, View}
-use Rattle.snap_service.specs.Prelude.{Admits, AreClosed, AreSeated, AreTables, CoversAll}
-use Rattle.snap_service.specs.Prelude.{cuts_among, cuts_of, front_of, fronts_of, HasFinal}
-use Rattle.snap_service.specs.Prelude.{IsCallers, nobody, NotedTheirs, OnlyWorkers}
-use Rattle.snap_service.specs.Prelude.{pass_at, setting, SpeaksFor, State, Tables, track}
+use Rattle.snap_prelude.specs.{Admitted, admitted_of, AreTheirs, calls_of, Closes, Ended, Entry, In, Known, names}
+use Rattle.snap_prelude.specs.{numbers, numbers_of, one_if, own_number, Passing, times, total, View}
+use Rattle.snap_service.specs.Prelude.{Admits, AreClosed, AreSeated, AreTables, CoversAll, cuts_among, cuts_of}
+use Rattle.snap_service.specs.Prelude.{front_of, fronts_of, HasFinal, IsCallers, IsFrontOfWorkers, nobody, NotedTheirs}
+use Rattle.snap_service.specs.Prelude.{pass_at, SessionState, setting, SpeaksFor, Tables, track}
 use Rattle.snap_text.specs.LoadFiles.{Loads}
 
 -- an admitted number stands among the numbers
@@ -116,7 +113,7 @@ covers_none tables loads w = record {
   cuts = refl;
 }
 
-pub covers_all : (tables : Tables) (loads : Loads) (w : ℕ) (s : State) (kit : List Known) (fronts : List Ended) → AreSeated tables kit → AreSeated tables s.passes → AreClosed kit fronts → Admits kit s.passes → IsCallers tables kit
+pub covers_all : (tables : Tables) (loads : Loads) (w : ℕ) (s : SessionState) (kit : List Known) (fronts : List Ended) → AreSeated tables kit → AreSeated tables s.passes → AreClosed kit fronts → Admits kit s.passes → IsCallers tables kit
     → ((t : ℕ) → t < length s.passes → (pass_at s.passes t).view.who ≡ w) → ((t : ℕ) → t < length tables.laid → (k : Known) → k ≡ pass_at kit t → (k.view.rows ≡ tables.rows) × (k.view.passes ≡ tables.kits)) → CoversAll tables loads w s fronts
 covers_all tables loads w s kit fronts seated theirs closed admits callers number sizes t = dite (dec_lt t (length s.passes))
     (λ l.
@@ -142,8 +139,8 @@ none_among (a ∷ more) i z = ap (λ (t : Bool). cond t a.cuts (cuts_among more 
 none_cut : (v : View) (i : ℕ) → v.who ≢ i → times i (numbers_of v.admitted) ≡ 0 → cuts_of v i ≡ []
 none_cut v i n z = ap (λ (t : Bool). cond t v.cuts (cuts_among v.admitted i)) (ne_eqb v.who i n) ∙ none_among v.admitted i z
 
-only_one : (kits t : ℕ) (k : Known) (f : Ended) → Closes k f → k.view.role ≡ Passing → k.view.passes ≡ kits → k.view.who + 1 ≡ kits → k.view.mine ≡ [] → (k.view.cuts ≡ []) ⊎ ((t ≡ 0) × HasFinal k.view) → OnlyWorkers (kits - 1) t (front_of (Some f))
-only_one kits t k f c passing passes own silent noted = subst (λ (l : Known). let e : Ended = record f { last = l } in OnlyWorkers (kits - 1) t (front_of (Some e))) (sym c.last) whole
+only_one : (kits t : ℕ) (k : Known) (f : Ended) → Closes k f → k.view.role ≡ Passing → k.view.passes ≡ kits → k.view.who + 1 ≡ kits → k.view.mine ≡ [] → (k.view.cuts ≡ []) ⊎ ((t ≡ 0) × HasFinal k.view) → IsFrontOfWorkers (kits - 1) t (front_of (Some f))
+only_one kits t k f c passing passes own silent noted = subst (λ (l : Known). let e : Ended = record f { last = l } in IsFrontOfWorkers (kits - 1) t (front_of (Some e))) (sym c.last) whole
   where
     none : (i : ℕ) → kits ≤ i → times i (numbers k.view) ≡ 0
     none i l = dite (dec_lt 0 (times i (numbers k.view))) (λ s. absurd (omega (arith, l, passes, below k.view f k refl c passing i s))) (λ g. omega (arith, g))
@@ -154,7 +151,7 @@ only_one kits t k f c passing passes own silent noted = subst (λ (l : Known). l
     own_cuts : cuts_of k.view (kits - 1) ≡ k.view.cuts
     own_cuts = ap (λ (b : Bool). cond b k.view.cuts (cuts_among k.view.admitted (kits - 1))) (eq-eqb k.view.who (kits - 1) number)
 
-    whole : (let e : Ended = record f { last = k } in OnlyWorkers (kits - 1) t (front_of (Some e)))
+    whole : (let e : Ended = record f { last = k } in IsFrontOfWorkers (kits - 1) t (front_of (Some e)))
     whole = record {
       entries = λ i l. dite (ℕ_discrete i (kits - 1))
           (λ e. ap (calls_of k.view.seen) (e ∙ sym number) ∙ sym c.knows.mine ∙ silent)
@@ -163,12 +160,12 @@ only_one kits t k f c passing passes own silent noted = subst (λ (l : Known). l
       final = elim noted [ inl e ↦ inl (own_cuts ∙ e) | inr z ↦ inr (z.0, own_cuts ∙ (let y = z.1 in y.one)) ];
     }
 
-pub only_workers : (tables : Tables) (kit : List Known) (fronts : List Ended) → AreTables tables → AreSeated tables kit → AreClosed kit fronts → IsCallers tables kit → (t : ℕ) → OnlyWorkers (tables.kits - 1) t (fronts_of fronts t)
+pub only_workers : (tables : Tables) (kit : List Known) (fronts : List Ended) → AreTables tables → AreSeated tables kit → AreClosed kit fronts → IsCallers tables kit → (t : ℕ) → IsFrontOfWorkers (tables.kits - 1) t (fronts_of fronts t)
 only_workers tables kit fronts ok seated closed callers t = dite (dec_lt t (length kit))
     (λ l.
     let x = some_front fronts t (omega (arith, l, closed.a_front_each)) in
     let lt : t < length tables.laid = omega (arith, l, seated.a_pass_each) in
     let sit = seated.each t lt in
-    subst (λ (o : Option Ended). OnlyWorkers (tables.kits - 1) t (front_of o)) (sym x.1)
+    subst (λ (o : Option Ended). IsFrontOfWorkers (tables.kits - 1) t (front_of o)) (sym x.1)
     (only_one tables.kits t (pass_at kit t) x.0 (closed.each t x.0 x.1) sit.passing (sit.of.2 ∙ ok.passes_are t lt) (callers.last t l) (callers.silent t l) (callers.noted t l)))
-    (λ g. subst (λ (o : Option Ended). OnlyWorkers (tables.kits - 1) t (front_of o)) (sym (slice_get_past fronts t (omega (arith, g, closed.a_front_each)))) (record { entries = λ i l. refl; cuts = λ i l. refl; final = inl refl }))
+    (λ g. subst (λ (o : Option Ended). IsFrontOfWorkers (tables.kits - 1) t (front_of o)) (sym (slice_get_past fronts t (omega (arith, g, closed.a_front_each)))) (record { entries = λ i l. refl; cuts = λ i l. refl; final = inl refl }))

@@ -1,8 +1,7 @@
 -- Kits that are admitted, and tables that are closed, from the last one to the first.
 use Rattle.std.proofs.Common.{zero, suc, ◌≡◌, ◌≤◌, ◌<◌, ◌+◌, ◌-◌, ℕ, List, [], ◌∷◌, ◌++◌, length, get_or, take, Option, Some, inl, inr, refl, ap, sym, ◌∙◌, subst, arith, length-append, ◌⊎◌, slice_get, slice_index_or, slice_set, reverse, unwrap_or}
-use Rattle.snap_prelude.proofs.Common.{dite, get_or-reverse, get_or-set_other}
-use Rattle.snap_prelude.proofs.Common.{get_or-set_same, get_or-take, get_or_read}
-use Rattle.snap_prelude.proofs.Common.{slice_get-get_or, slice_get_within, ℕ_discrete}
+use Rattle.snap_prelude.proofs.Common.{dite, get_or-reverse, get_or-set_other, get_or-set_same, get_or-take}
+use Rattle.snap_prelude.proofs.Common.{get_or_read, slice_get-get_or, slice_get_within, ℕ_discrete}
 use Rattle.std.proofs.Math.Seq.{take-append_seam}
 use Rattle.snap_prelude.specs.{Closes, Ended, Known, Laid}
 use Rattle.snap_service.specs.Prelude.{AreClosed, IsSeated, Joins, nobody, nowhere, pass_at}

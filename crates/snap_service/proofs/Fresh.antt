@@ -3,9 +3,8 @@ use Rattle.std.proofs.Common.{zero, suc, ◌≡◌, ℕ, false, List, [], ◌∷
 use Rattle.snap_fits.specs.Sessions.{Track}
 use Rattle.snap_fits.proofs.Runs.{served_begins}
 use Rattle.snap_prelude.specs.{Cloned, Known, Laid}
-use Rattle.snap_service.specs.Prelude.{AreSeated, AreTables, course, FitsSlot, free_slots}
-use Rattle.snap_service.specs.Prelude.{HasServed, IsFresh, IsWellFormed, kept, new_kit}
-use Rattle.snap_service.specs.Prelude.{opened, setting, State, Tables, track}
+use Rattle.snap_service.specs.Prelude.{AreSeated, AreTables, course, FitsSlot, free_slots, HasServed, IsFresh}
+use Rattle.snap_service.specs.Prelude.{IsWellFormed, kept, new_kit, new_session, SessionState, setting, Tables, track}
 
 none_kept : (n i : ℕ) → kept (slice_index_or (replicate n None) i None) ≡ None
 none_kept zero i = refl
@@ -21,7 +20,7 @@ places_free : (n : ℕ) → (let free : List (Option (ℕ × Cloned)) = replicat
 places_free zero = refl
 places_free (suc n) = ap suc (places_free n)
 
-pub well_opened : (tables : Tables) (kit : List Known) (clones : List (Option (ℕ × Cloned))) → AreTables tables → AreSeated tables kit → clones ≡ free_slots → (let s : State = record { tables = tables; passes = kit; in_use = 0; clones = clones } in IsWellFormed s)
+pub well_opened : (tables : Tables) (kit : List Known) (clones : List (Option (ℕ × Cloned))) → AreTables tables → AreSeated tables kit → clones ≡ free_slots → (let s : SessionState = record { tables = tables; passes = kit; in_use = 0; clones = clones } in IsWellFormed s)
 well_opened tables kit clones ok seated free = record {
   service = ok;
   seated = seated;
@@ -38,11 +37,11 @@ new_at w [] t = refl
 new_at w (x ∷ xs) zero = refl
 new_at w (x ∷ xs) (suc t) = new_at w xs t
 
-pub fresh : (tables : Tables) (kit : List Known) (s : State) → s ≡ opened tables kit → IsFresh tables kit s
+pub fresh : (tables : Tables) (kit : List Known) (s : SessionState) → s ≡ new_session tables kit → IsFresh tables kit s
 fresh tables kit s is loads w new =
-    let e : s ≡ opened tables (new_kit tables.laid w) = is ∙ ap (opened tables) new in
-    subst (λ (x : State). HasServed loads w [] [] [] x) (sym e)
-    (served_begins (setting tables loads) w (course w (opened tables (new_kit tables.laid w))) (record {
+    let e : s ≡ new_session tables (new_kit tables.laid w) = is ∙ ap (new_session tables) new in
+    subst (λ (x : SessionState). HasServed loads w [] [] [] x) (sym e)
+    (served_begins (setting tables loads) w (course w (new_session tables (new_kit tables.laid w))) (record {
       in_use = refl;
       who = λ t. ap (λ (x : Track). x.who) (new_at w tables.laid t);
       seen = λ t. ap (λ (x : Track). x.seen) (new_at w tables.laid t);

@@ -1,10 +1,8 @@
 -- The depth of a clone, by the answers of its view.
 use Rattle.std.proofs.Common.{◌≡◌, ◌≤◌, ◌<◌, ◌^◌, ◌*◌, ℕ, Bool, false, length, refl, ap, ◌∙◌, subst}
-use Rattle.snap_prelude.specs.{after, Cloned, count, depth, image}
-use Rattle.snap_prelude.specs.{IsCloneOf, IsSettledTree, least, Pairs}
+use Rattle.snap_prelude.specs.{after, Cloned, count, depth, image, IsCloneOf, IsSettledTree, least, Pairs}
 use Rattle.snap_model.specs.declared.command.Reply.TheVariants as reply
-use Rattle.snap_view.specs.Balances.{TellsBalance}
-use Rattle.snap_view.specs.declared.balance.Settled.{Settled}
+use Rattle.snap_view.specs.{Balances.TellsBalance, declared.balance.Settled.Settled}
 use Rattle.snap_view.specs.declared.balance.Settled.TheVariants.{Yes, RowsOut, StampOut}
 use Rattle.snap_view.proofs.Neighbours.{clone_rises, whole_range}
 use Rattle.snap_service.specs.Prelude.{is_yes, Measures}

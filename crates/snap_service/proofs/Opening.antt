@@ -3,7 +3,7 @@ use Rattle.std.proofs.Common.{zero, suc, ◌≡◌, ◌<◌, ◌+◌, ℕ, List,
 use Rattle.snap_prelude.proofs.Common.{dite, get_or-map, length-map, map-append, ℕ_discrete}
 use Rattle.atomic_table.specs.Seated.{TableId}
 use Rattle.snap_prelude.specs.{first_passes, IsOpened, Known, Laid, newcomer}
-use Rattle.snap_service.specs.Prelude.{AreDealt, AreNewKits, AreSeated, IsSeated, IsUncut, new_kit}
+use Rattle.snap_service.specs.Prelude.{AreDealt, AreNewKits, AreSeated, IsSeated, new_kit}
 use Rattle.snap_service.specs.Prelude.{new_pass, nobody, nowhere, pass_at, table_at, Tables}
 
 pub first_many : (table : TableId) (rows passes n : ℕ) → length (first_passes table rows passes n) ≡ n
@@ -89,11 +89,3 @@ all_seated tables kits count new i d l = subst (AreSeated tables) (sym (new.each
 module _ (tables : Tables) (w : ℕ) (t : ℕ) (l : t < length (new_kit tables.laid w)) where
   pub new_at : pass_at (new_kit tables.laid w) t ≡ new_pass w (table_at tables t)
   new_at = get_or-map (new_pass w) tables.laid t nowhere nobody (omega (arith, l, length-map tables.laid (new_pass w)))
-
--- the last one has made nothing yet
-pub new_uncut : (tables : Tables) (w : ℕ) → tables.kits ≡ w + 1 → IsUncut tables (new_kit tables.laid w)
-new_uncut tables w many = record {
-  last = λ t l. ap (λ (k : Known). k.view.who + 1) (new_at tables w t l) ∙ sym many;
-  none = λ t l. ap (λ (k : Known). k.view.cuts) (new_at tables w t l);
-  silent = λ t l. ap (λ (k : Known). k.view.mine) (new_at tables w t l);
-}

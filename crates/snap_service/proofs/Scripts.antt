@@ -2,11 +2,9 @@
 use Rattle.std.proofs.Common.{suc, zero, ◌≡◌, ℕ, Bool, true, false, get_or, List, [], ◌∷◌, Option, Some, None, refl, subst, map, is_some, slice_get}
 use Rattle.snap_prelude.proofs.Common.{map-set}
 use Rattle.snap_prelude.specs.{Command}
-use Rattle.snap_text.specs.declared.script.Line.{Line}
-use Rattle.snap_text.specs.Clones.{Slots, all_free}
-use Rattle.snap_text.specs.Uses.{AllUseSlots, UsesSlots, slots_after}
-use Rattle.snap_text.specs.LoadFiles.{Loads}
-use Rattle.snap_service.specs.Prelude.{CanRunAll, free_slots, State}
+use Rattle.snap_text.specs.{declared.script.Line.Line, Clones.all_free, Clones.Slots, Uses.AllUseSlots}
+use Rattle.snap_text.specs.{Uses.slots_after, Uses.UsesSlots, LoadFiles.Loads}
+use Rattle.snap_service.specs.Prelude.{CanRunAll, free_slots, SessionState}
 use Rattle.snap_service.proofs.Slots.{AllFitSlots, AllServed, FitsSlots, can_run_new, taken, taken_after}
 
 -- the mark of a slot that is there
@@ -65,7 +63,7 @@ all_fit slots (line ∷ ls) uses = (
 pub script_can_run : (names : List (List ℕ)) (loads : Loads) (ls : List Line)
     → AllUseSlots all_free ls
     → AllServed names loads (map (λ l. l.command) ls)
-    → (s : State) → s.tables.names ≡ names → s.clones ≡ free_slots → CanRunAll s loads (map (λ l. l.command) ls)
+    → (s : SessionState) → s.tables.names ≡ names → s.clones ≡ free_slots → CanRunAll s loads (map (λ l. l.command) ls)
 unfolding all_free
 script_can_run names loads ls uses served s named free =
     can_run_new s loads names (map (λ (l : Line). l.command) ls) named free (all_fit all_free ls uses) served

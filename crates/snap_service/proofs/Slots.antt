@@ -2,10 +2,9 @@
 use Rattle.std.proofs.Common.{suc, zero, ◌≡◌, ◌<◌, ℕ, Bool, true, false, length, get_or, List, [], ◌∷◌, Option, Some, None, refl, sym, ◌∙◌, ap, subst, arith, All, map, replicate, is_some, slice_index_or, slice_set, IsSome, IsNone}
 use Rattle.snap_prelude.proofs.Common.{length-set, map-set}
 use Rattle.snap_prelude.specs.{Cloned, Command, Known, Reply}
-use Rattle.snap_text.specs.LoadFiles.{Loads, HasFile, pairs_of}
-use Rattle.snap_service.specs.Prelude.{CanRun, CanRunAll, clone_at, FitsValue, free_slots}
-use Rattle.snap_service.specs.Prelude.{Measured, place_of, Serves, slots, State}
-use Rattle.snap_service.specs.Prelude.{with_pass, with_pass_at, with_slot, with_use}
+use Rattle.snap_text.specs.{LoadFiles.HasFile, LoadFiles.Loads, LoadFiles.pairs_of, Numbers.FitsValue}
+use Rattle.snap_service.specs.Prelude.{CanRun, CanRunAll, clone_at, free_slots, Measured, Serves, SessionState, slots}
+use Rattle.snap_service.specs.Prelude.{table_place, with_pass, with_pass_at, with_slot, with_use}
 
 -- of each slot, whether it is taken
 abbrev pub taken : {X : Type 0} → List (Option X) → List Bool
@@ -52,7 +51,7 @@ AllFitSlots marks (c ∷ cs) = FitsSlots marks c × AllFitSlots (taken_after mar
 
 -- a session has the command, the table or the file that it names, and room for its values
 abbrev pub IsServed : List (List ℕ) → Loads → Command → Type 0
-IsServed names loads (Command.Table name) = IsSome (place_of names name)
+IsServed names loads (Command.Table name) = IsSome (table_place names name)
 IsServed names loads (Command.Put key value) = FitsValue value
 IsServed names loads (Command.Load file) = HasFile loads file × All (λ (pair : ℕ × ℕ). FitsValue pair.1) (pairs_of loads file)
 IsServed names loads _ = Unit {0}
@@ -72,7 +71,7 @@ unmarked [] i is = absurd cc
 unmarked (place ∷ places) zero is = (omega arith, is)
 unmarked (place ∷ places) (suc i) is = let rest = unmarked places i is in (omega (arith, rest.0), rest.1)
 
-can_run : (s : State) (loads : Loads) (c : Command) → length s.clones ≡ slots → FitsSlots (taken s.clones) c → IsServed s.tables.names loads c → CanRun s loads c
+can_run : (s : SessionState) (loads : Loads) (c : Command) → length s.clones ≡ slots → FitsSlots (taken s.clones) c → IsServed s.tables.names loads c → CanRun s loads c
 can_run s loads (Command.Table name) places fits served = served
 can_run s loads (Command.Put key value) places fits served = served
 can_run s loads (Command.Remove key) places fits served = tt
@@ -92,28 +91,28 @@ can_run s loads (Command.Export slot lo hi file) places fits served = marked s.c
 can_run s loads (Command.Load file) places fits served = served
 
 -- what a command leaves of the slots and of the names
-record Leaves (a b : State) (marks : List Bool) : Type 0 where
+record Leaves (a b : SessionState) (marks : List Bool) : Type 0 where
   pub marks_are : taken b.clones ≡ marks
   pub places : length b.clones ≡ length a.clones
   pub names : b.tables.names ≡ a.tables.names
 
-all_stay : (a : State) → Leaves a a (taken a.clones)
+all_stay : (a : SessionState) → Leaves a a (taken a.clones)
 all_stay a = record { marks_are = refl; places = refl; names = refl }
 
-pass_leaves : (a : State) (t : ℕ) (pass : Known) → Leaves a (with_pass_at a t pass) (taken a.clones)
+pass_leaves : (a : SessionState) (t : ℕ) (pass : Known) → Leaves a (with_pass_at a t pass) (taken a.clones)
 pass_leaves a t pass = record { marks_are = refl; places = refl; names = refl }
 
-use_leaves : (a : State) (name : List ℕ) → Leaves a (with_use a name) (taken a.clones)
+use_leaves : (a : SessionState) (name : List ℕ) → Leaves a (with_use a name) (taken a.clones)
 use_leaves a name = record { marks_are = refl; places = refl; names = refl }
 
-left_by : (a b made : State) (marks : List Bool) → b ≡ made → Leaves a made marks → Leaves a b marks
-left_by a b made marks is h = subst (λ (s : State). Leaves a s marks) (sym is) h
+left_by : (a b made : SessionState) (marks : List Bool) → b ≡ made → Leaves a made marks → Leaves a b marks
+left_by a b made marks is h = subst (λ (s : SessionState). Leaves a s marks) (sym is) h
 
-measured_leaves : (a b : State) (c : Option (ℕ × Cloned)) (r : Reply) → Measured c a r b → Leaves a b (taken a.clones)
+measured_leaves : (a b : SessionState) (c : Option (ℕ × Cloned)) (r : Reply) → Measured c a r b → Leaves a b (taken a.clones)
 measured_leaves a b None r h = absurd h
 measured_leaves a b (Some live) r h = left_by a b (with_pass_at a live.0 h.1) (taken a.clones) h.2 (pass_leaves a live.0 h.1)
 
-leaves : (a : State) (loads : Loads) (c : Command) (r : Reply) (b : State) → Serves loads a c r b → Leaves a b (taken_after (taken a.clones) c)
+leaves : (a : SessionState) (loads : Loads) (c : Command) (r : Reply) (b : SessionState) → Serves loads a c r b → Leaves a b (taken_after (taken a.clones) c)
 leaves a loads (Command.Table name) r b h = left_by a b (with_use a name) (taken a.clones) h.1 (use_leaves a name)
 leaves a loads (Command.Put key value) r b h = left_by a b (with_pass a h.0) (taken a.clones) h.1 (pass_leaves a a.in_use h.0)
 leaves a loads (Command.Remove key) r b h = left_by a b (with_pass a h.0) (taken a.clones) h.1 (pass_leaves a a.in_use h.0)
@@ -135,7 +134,7 @@ leaves a loads (Command.Export slot lo hi file) r b h = left_by a b a (taken a.c
 leaves a loads (Command.Load file) r b h = left_by a b (with_pass a h.0) (taken a.clones) h.1 (pass_leaves a a.in_use h.0)
 
 -- commands that fit the slots, and that are served, can all be run
-pub can_run_all : (s : State) (loads : Loads) (cs : List Command) → length s.clones ≡ slots → AllFitSlots (taken s.clones) cs → AllServed s.tables.names loads cs → CanRunAll s loads cs
+pub can_run_all : (s : SessionState) (loads : Loads) (cs : List Command) → length s.clones ≡ slots → AllFitSlots (taken s.clones) cs → AllServed s.tables.names loads cs → CanRunAll s loads cs
 can_run_all s loads [] places fit served = tt
 can_run_all s loads (c ∷ cs) places fit served = (
   can_run s loads c places fit.0 served.0,
@@ -146,7 +145,7 @@ can_run_all s loads (c ∷ cs) places fit served = (
 )
 
 -- in a session without clones
-pub can_run_new : (s : State) (loads : Loads) (names : List (List ℕ)) (cs : List Command) → s.tables.names ≡ names → s.clones ≡ free_slots → AllFitSlots (replicate slots false) cs → AllServed names loads cs → CanRunAll s loads cs
+pub can_run_new : (s : SessionState) (loads : Loads) (names : List (List ℕ)) (cs : List Command) → s.tables.names ≡ names → s.clones ≡ free_slots → AllFitSlots (replicate slots false) cs → AllServed names loads cs → CanRunAll s loads cs
 can_run_new s loads names cs named free fit served = can_run_all s loads cs (ap (λ (cl : List (Option (ℕ × Cloned))). length cl) free)
     (subst (λ (marks : List Bool). AllFitSlots marks cs) (sym (ap (λ (cl : List (Option (ℕ × Cloned))). taken cl) free ∙ taken-replicate (ℕ × Cloned) slots)) fit)
     (subst (λ (ns : List (List ℕ)). AllServed ns loads cs) (sym named) served)

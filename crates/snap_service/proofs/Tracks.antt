@@ -8,8 +8,7 @@ use Rattle.snap_prelude.specs.{Pairs, Put, Remove, SeesMore, TakesBack, View, Wo
 use Rattle.snap_model.specs.History.{told}
 use Rattle.snap_search.specs.Prelude.{Reads}
 use Rattle.snap_prelude.proofs.Common.{of_mine}
-use Rattle.snap_table.specs.Calls.{Replies, Refuses}
-use Rattle.snap_table.specs.Clones.{Cuts}
+use Rattle.snap_table.specs.{Calls.Refuses, Calls.Replies, Clones.Cuts}
 use Rattle.snap_update.specs.Answers.{PutsAbsent, NeedsRow}
 use Rattle.snap_service.specs.Prelude.{PutAll, track_of}
 use Rattle.snap_service.proofs.Notes.{handed_grows, epochs_grow, in_handed, in_epochs, some_epoch}

@@ -1,10 +1,9 @@
 -- What counts of passes, of a session and of closed tables for the outcome of a run.
 use Rattle.std.specs.Prelude.{◌-◌, ◌==◌, ℕ, false, List, [], ◌∷◌, Option, Some, None, cond, slice_get, slice_index_or, unwrap_or}
-use Rattle.snap_fits.specs.Fits.{Setting, Front}
-use Rattle.snap_fits.specs.Sessions.{Track, KeptClone, Course}
+use Rattle.snap_fits.specs.{Fits.Front, Fits.Setting, Sessions.Course, Sessions.KeptClone, Sessions.Track}
 use Rattle.snap_prelude.specs.{Admitted, Cloned, Ended, Known, View}
 use Rattle.snap_text.specs.LoadFiles.{Loads, pairs_of}
-use Rattle.snap_service.specs.States.{State, Tables, place_of}
+use Rattle.snap_service.specs.States.{SessionState, Tables, table_place}
 
 -- what counts of a pass
 abbrev pub track_of : Known → Track
@@ -34,7 +33,7 @@ kept None = None
 kept (Some live) = Some (kept_of live)
 
 -- what counts of the session of worker w
-abbrev pub course : ℕ → State → Course
+abbrev pub course : ℕ → SessionState → Course
 course w s = record {
   passes = λ t. track w (slice_get s.passes t);
   in_use = s.in_use;
@@ -46,7 +45,7 @@ abbrev pub setting : Tables → Loads → Setting
 setting tables loads = record {
   rows = tables.rows;
   workers = tables.kits - 1;
-  table = λ name. unwrap_or (place_of tables.names name) 0;
+  table = λ name. unwrap_or (table_place tables.names name) 0;
   pairs = λ file. pairs_of loads file;
 }
 

@@ -1,16 +1,13 @@
 -- Kits that end: what the caller's kit knows of those that it admitted, and what the closed tables
 -- tell of them.
 use Rattle.std.specs.Prelude.{◌≡◌, ◌<◌, ◌≤◌, ◌+◌, ◌⊎◌, ℕ, true, List, [], ◌∷◌, Some, length, slice_get, slice_set}
-use Rattle.snap_fits.specs.Fits.{Front, WorkerFits}
-use Rattle.snap_fits.specs.Sessions.{Covers}
-use Rattle.snap_prelude.specs.{Admitted, admitted_of, Becomes, Begins, calls_of, Cloned}
-use Rattle.snap_prelude.specs.{Closes, Command, Ended, Entry, Extends, heard, In, Known}
-use Rattle.snap_prelude.specs.{Pairs, Reply, SpeaksForAll, total, View, with_admitted}
+use Rattle.snap_fits.specs.{Fits.Front, Fits.WorkerFits, Sessions.Covers}
+use Rattle.snap_prelude.specs.{Admitted, admitted_of, Becomes, Begins, calls_of, Cloned, Closes, Command, Ended, Entry}
+use Rattle.snap_prelude.specs.{Extends, heard, In, Known, Pairs, Reply, SpeaksForAll, total, View, with_admitted}
 use Rattle.snap_table.specs.Clones.{Cuts}
-use Rattle.snap_service.specs.Courses.{course, fronts_of, setting}
+use Rattle.snap_service.specs.{Courses.course, Courses.fronts_of, Courses.setting, Runs.HasServed, States.AreSeated}
+use Rattle.snap_service.specs.{States.pass_at, States.SessionState, States.Tables}
 use Rattle.snap_text.specs.LoadFiles.{Loads}
-use Rattle.snap_service.specs.Runs.{HasServed}
-use Rattle.snap_service.specs.States.{Tables, State, AreSeated, pass_at}
 
 -- the pass has learnt what the receipt's had seen and noted, and speaks for its number
 abbrev pub Joins : Known → Known → Known → Type 0
@@ -75,19 +72,19 @@ pub record AreClosed (kit : List Known) (fronts : List Ended) : Type 0 where
 
 -- the front of each table, and the commands of each admitted worker fit them
 abbrev pub FitsAll : Tables → List Known → List Ended → Type 0
-FitsAll tables kit fronts = (loads : Loads) (w : ℕ) (s : State) (cs : List Command)
+FitsAll tables kit fronts = (loads : Loads) (w : ℕ) (s : SessionState) (cs : List Command)
     (rs : List Reply) (es : List (List ℕ × Pairs))
     → s.tables ≡ tables → AreSeated tables s.passes → HasServed loads w cs rs es s
     → Admits kit s.passes → WorkerFits (setting tables loads) (fronts_of fronts) w cs rs es
 
 -- no entry and no cut but those of the workers, and the caller's one cut of the whole history of
 -- the first table, where it made one
-pub record OnlyWorkers (workers t : ℕ) (f : Front) : Type 0 where
+pub record IsFrontOfWorkers (workers t : ℕ) (f : Front) : Type 0 where
   pub entries : (i : ℕ) → workers ≤ i → calls_of f.history i ≡ []
   pub cuts : (i : ℕ) → workers < i → f.cuts i ≡ []
   pub final : (f.cuts workers ≡ []) ⊎ ((t ≡ 0) × (f.cuts workers ≡ length f.history ∷ []))
 
 -- each front covers what this session of worker w has seen, made and noted
-abbrev pub CoversAll : Tables → Loads → ℕ → State → List Ended → Type 0
+abbrev pub CoversAll : Tables → Loads → ℕ → SessionState → List Ended → Type 0
 CoversAll tables loads w s fronts =
     (t : ℕ) → Covers (setting tables loads) w ((course w s).passes t) (fronts_of fronts t)

@@ -1,33 +1,27 @@
 -- Which commands a session can run, and what each does and replies, by the promises of the tables'
 -- calls.
-use Rattle.std.specs.Prelude.{◌≡◌, ◌<◌, ◌+◌, ◌-◌, ◌^◌, ◌*◌, ◌≤◌, ◌⊎◌, ℕ, Bool, true, false, List, [], ◌∷◌, Option, Some, None, All, length, min, take, slice_get}
+use Rattle.std.specs.Prelude.{◌≡◌, ◌<◌, ◌-◌, ◌^◌, ◌*◌, ◌≤◌, ◌⊎◌, ℕ, Bool, true, false, List, [], ◌∷◌, Option, Some, None, All, length, min, take, slice_get}
 use Rattle.snap_fits.specs.Fits.{put_reply, remove_reply, value_reply, pair_reply}
 use Rattle.snap_prelude.specs.{after, at, Call, ceiling, Cloned, Command, count, depth}
 use Rattle.snap_prelude.specs.{first_pair, floor, higher, image, IsSettledTree, Known, last_pair}
 use Rattle.snap_prelude.specs.{least, lower, Pairs, Put, range, Remove, Reply, TakesBack}
 use Rattle.snap_model.specs.declared.command.Reply.TheVariants as reply
 use Rattle.snap_search.specs.Prelude.{Reads}
-use Rattle.snap_table.specs.Calls.{Replies, Refuses}
-use Rattle.snap_table.specs.Clones.{Cuts}
-use Rattle.snap_text.specs.Tables.{table_text}
-use Rattle.snap_view.specs.Balances.{TellsBalance}
-use Rattle.snap_view.specs.declared.balance.Settled.{Settled}
-use Rattle.snap_view.specs.declared.balance.Settled.TheVariants.{Yes}
-use Rattle.snap_text.specs.LoadFiles.{Loads, HasFile, pairs_of}
-use Rattle.snap_service.specs.States.{State, HasTable, IsFree, IsTaken, clone_at, pass_at, pass_in_use, with_pass, with_pass_at, with_slot, with_use}
-
--- one more than a value is a word
-abbrev pub FitsValue : ℕ → Type 0
-FitsValue value = value + 1 < 2 ^ 64
+use Rattle.snap_table.specs.{Calls.Refuses, Calls.Replies, Clones.Cuts}
+use Rattle.snap_text.specs.{Tables.table_text, LoadFiles.HasFile, LoadFiles.Loads, LoadFiles.pairs_of}
+use Rattle.snap_text.specs.{Numbers.FitsValue}
+use Rattle.snap_view.specs.{Balances.TellsBalance, declared.balance.Settled.Settled}
+use Rattle.snap_view.specs.{declared.balance.Settled.TheVariants.Yes}
+use Rattle.snap_service.specs.States.{SessionState, HasTable, HasFreeSlot, IsTaken, clone_at, pass_at, pass_in_use, with_pass, with_pass_at, with_slot, with_use}
 
 -- a clone needs a free slot, whatever asks a clone needs a taken one, and a named table or file has
 -- to be there
-abbrev pub CanRun : State → Loads → Command → Type 0
+abbrev pub CanRun : SessionState → Loads → Command → Type 0
 CanRun s loads (Command.Table name) = HasTable s name
 CanRun s loads (Command.Put key value) = FitsValue value
 CanRun s loads (Command.Remove key) = Unit {0}
 CanRun s loads (Command.Get key) = Unit {0}
-CanRun s loads (Command.Snap slot name) = IsFree s slot
+CanRun s loads (Command.Snap slot name) = HasFreeSlot s slot
 CanRun s loads (Command.Forget slot name) = IsTaken s slot
 CanRun s loads (Command.See slot key) = IsTaken s slot
 CanRun s loads (Command.First slot) = IsTaken s slot
@@ -54,8 +48,8 @@ PutAll old [] new = new ≡ old
 PutAll old (x ∷ xs) new =
     (mid : Known) × ((was : Option ℕ) × Replies old mid (Put x.0 x.1) was) × PutAll mid xs new
 
-abbrev pub Loaded : ℕ → Pairs → Known → Reply → Known → Type 0
-Loaded rows pairs old r new =
+abbrev pub LoadsPairs : ℕ → Pairs → Known → Reply → Known → Type 0
+LoadsPairs rows pairs old r new =
     ((r ≡ reply.Loaded (length pairs)) × PutAll old pairs new)
     ⊎ ((n : ℕ) × (x : ℕ × ℕ) × (r ≡ reply.FullAfter n) × (slice_get pairs n ≡ Some x)
     × (mid : Known) × PutAll old (take n pairs) mid × Refuses rows mid new (Put x.0 x.1))
@@ -65,7 +59,7 @@ abbrev pub map_in : Option (ℕ × Cloned) → Pairs
 map_in None = []
 map_in (Some live) = after live.1.base
 
-abbrev pub clone_map : State → ℕ → Pairs
+abbrev pub clone_map : SessionState → ℕ → Pairs
 clone_map s slot = map_in (clone_at s slot)
 
 -- whether the tree of a clone is settled
@@ -86,7 +80,7 @@ pub record Measures (old new : Cloned) (r : Reply) : Type 0 where
   pub tells : TellsBalance old new balance
 
 -- the depth of a clone, and the pass of its table to which the view was given back that answered
-abbrev pub Measured : Option (ℕ × Cloned) → State → Reply → State → Type 0
+abbrev pub Measured : Option (ℕ × Cloned) → SessionState → Reply → SessionState → Type 0
 Measured None a r b = ⊥
 Measured (Some live) a r b = (asked : Cloned)
     × (pass : Known) × (b ≡ with_pass_at a live.0 pass)
@@ -94,7 +88,7 @@ Measured (Some live) a r b = (asked : Cloned)
     × TakesBack (pass_at a.passes live.0) pass asked
 
 -- what a command replies, and the session after it
-abbrev pub Serves : Loads → State → Command → Reply → State → Type 0
+abbrev pub Serves : Loads → SessionState → Command → Reply → SessionState → Type 0
 Serves loads a (Command.Table name) r b = (r ≡ reply.Using) × (b ≡ with_use a name)
 Serves loads a (Command.Put key value) r b = (pass : Known)
     × (b ≡ with_pass a pass)
@@ -108,7 +102,7 @@ Serves loads a (Command.Get key) r b = (pass : Known)
     × Reads (pass_in_use a) pass key answer
 Serves loads a (Command.Load file) r b = (pass : Known)
     × (b ≡ with_pass a pass)
-    × Loaded a.tables.rows (pairs_of loads file) (pass_in_use a) r pass
+    × LoadsPairs a.tables.rows (pairs_of loads file) (pass_in_use a) r pass
 Serves loads a (Command.Snap slot name) r b = (r ≡ reply.Snapped)
     × (pass : Known) × (clone : Cloned)
     × (b ≡ with_slot (with_pass a pass) slot (Some (a.in_use, clone)))
@@ -132,7 +126,7 @@ Serves loads a (Command.Export slot lo hi file) r b =
 Serves loads a (Command.Depth slot) r b = Measured (clone_at a slot) a r b
 
 -- the text that a command exports
-abbrev pub text_of : State → Command → List ℕ
+abbrev pub text_of : SessionState → Command → List ℕ
 text_of s (Command.Export slot lo hi file) = table_text (range (clone_map s slot) lo hi)
 text_of s _ = []
 

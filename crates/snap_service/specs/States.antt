@@ -1,9 +1,9 @@
 -- What contracts see of the tables of a service, of a kit and of a session.
 use Rattle.std.specs.Prelude.{◌++◌, ◌≡◌, ◌<◌, ℕ, List, [], ◌∷◌, length, max, Option, None, Some, position, bytes_eq, map, replicate, slice_index_or, slice_set, unwrap_or, IsSome, IsNone}
 use Rattle.atomic_table.specs.Seated.{TableId}
-use Rattle.snap_prelude.specs.{Cloned, gone, image, IsCloneAt, IsCloneOf}
-use Rattle.snap_prelude.specs.{IsOf, Known, Laid, newcomer, Passing}
+use Rattle.snap_prelude.specs.{Cloned, gone, image, IsCloneAt, IsCloneOf, IsOf, Known, Laid, newcomer, Passing}
 use Rattle.snap_table.specs.Calls.{IsIdle}
+use Rattle.snap_text.specs.Clones.{most_clones}
 
 -- the tables of a service: their names, each table in the same order, their rows, and how many kits
 -- there are
@@ -56,11 +56,11 @@ new_kit laid who = map (new_pass who) laid
 
 -- how many clones of a session may live at once
 abbrev pub slots : ℕ
-slots = 64
+slots = most_clones
 
 -- a session: the tables, its passes, the table in use, and the clone in each slot with the place of
 -- its table
-pub record State : Type 0 where
+pub record SessionState : Type 0 where
   pub tables : Tables
   pub passes : List Known
   pub in_use : ℕ
@@ -77,7 +77,7 @@ abbrev pub FitsSlot : Tables → Option (ℕ × Cloned) → Type 0
 FitsSlot s None = Unit {0}
 FitsSlot s (Some live) = IsCloneIn s live
 
-pub record IsWellFormed (s : State) : Type 0 where
+pub record IsWellFormed (s : SessionState) : Type 0 where
   pub service : AreTables s.tables
   pub seated : AreSeated s.tables s.passes
   pub a_table_in_use : s.in_use < length s.passes
@@ -88,41 +88,41 @@ abbrev pub free_slots : List (Option (ℕ × Cloned))
 free_slots = replicate slots None
 
 -- a session begins on the first table, with all slots free
-abbrev pub opened : Tables → List Known → State
-opened tables kit = record { tables = tables; passes = kit; in_use = 0; clones = free_slots }
+abbrev pub new_session : Tables → List Known → SessionState
+new_session tables kit = record { tables = tables; passes = kit; in_use = 0; clones = free_slots }
 
 -- where the table of a name stands
-abbrev pub place_of : List (List ℕ) → List ℕ → Option ℕ
-place_of names name = position (λ known. bytes_eq known name) names
+abbrev pub table_place : List (List ℕ) → List ℕ → Option ℕ
+table_place names name = position (λ known. bytes_eq known name) names
 
-abbrev pub HasTable : State → List ℕ → Type 0
-HasTable s name = IsSome (place_of s.tables.names name)
+abbrev pub HasTable : SessionState → List ℕ → Type 0
+HasTable s name = IsSome (table_place s.tables.names name)
 
-abbrev pub pass_in_use : State → Known
+abbrev pub pass_in_use : SessionState → Known
 pass_in_use s = pass_at s.passes s.in_use
 
 -- the clone in a slot, if it is taken
-abbrev pub clone_at : State → ℕ → Option (ℕ × Cloned)
+abbrev pub clone_at : SessionState → ℕ → Option (ℕ × Cloned)
 clone_at s slot = slice_index_or s.clones slot None
 
-abbrev pub IsTaken : State → ℕ → Type 0
+abbrev pub IsTaken : SessionState → ℕ → Type 0
 IsTaken s slot = IsSome (clone_at s slot)
 
-abbrev pub IsFree : State → ℕ → Type 0
-IsFree s slot = (slot < slots) × IsNone (clone_at s slot)
+abbrev pub HasFreeSlot : SessionState → ℕ → Type 0
+HasFreeSlot s slot = (slot < slots) × IsNone (clone_at s slot)
 
 -- the session with another pass on a table, or on the one in use, another table in use, or another
 -- clone in a slot
-abbrev pub with_pass_at : State → ℕ → Known → State
+abbrev pub with_pass_at : SessionState → ℕ → Known → SessionState
 with_pass_at s t p = record s { passes = slice_set s.passes t p }
 
-abbrev pub with_pass : State → Known → State
+abbrev pub with_pass : SessionState → Known → SessionState
 with_pass s p = with_pass_at s s.in_use p
 
-abbrev pub with_use : State → List ℕ → State
-with_use s name = record s { in_use = unwrap_or (place_of s.tables.names name) s.in_use }
+abbrev pub with_use : SessionState → List ℕ → SessionState
+with_use s name = record s { in_use = unwrap_or (table_place s.tables.names name) s.in_use }
 
-abbrev pub with_slot : State → ℕ → Option (ℕ × Cloned) → State
+abbrev pub with_slot : SessionState → ℕ → Option (ℕ × Cloned) → SessionState
 with_slot s slot clone = record s { clones = slice_set s.clones slot clone }
 
 -- the greatest number of uses of a pass
@@ -131,7 +131,7 @@ most_uses [] = 0
 most_uses (p ∷ ps) = max p.view.uses (most_uses ps)
 
 -- tables of these names, with so many rows each, for so many kits
-pub record IsOpened (s : Tables) (names : List (List ℕ)) (rows kits : ℕ) : Type 0 where
+pub record AreTablesOf (s : Tables) (names : List (List ℕ)) (rows kits : ℕ) : Type 0 where
   pub names_are : s.names ≡ names
   pub rows_are : s.rows ≡ rows
   pub kits_are : s.kits ≡ kits

@@ -10,6 +10,6 @@ mod replies;
 mod service;
 mod session;
 
-pub use service::{Fronts, Kit, KitReceipt, MOST_ROWS, MOST_TABLES, Service};
-pub use session::{SLOTS, Session};
+pub use service::{Fronts, Kit, KitReceipt, Service};
+pub use session::Session;
 pub use snap_text::Loads;

@@ -1,21 +1,16 @@
 //! The tables of a run by their names, the kits of passes for its sessions, and what is left when they close.
 ghost use Rattle.std.specs.Prelude.{◌≡◌, ◌≢◌, ◌-◌, ◌<◌, ◌≤◌, ◌^◌, ◌++◌, ℕ, All, AllPairs, IfOk, List, OnOk, [], ◌∷◌, length, replicate, slice_index_or, vec_capacity};
 ghost use Rattle.snap_prelude.specs.{Known};
-ghost use Rattle.snap_service.specs.Kits.{Admits, AdmitsAll, AreClosed, FitsAll, IsCallers, IsFinal, IsUncut, JoinsAll, OnlyWorkers};
+ghost use Rattle.snap_service.specs.Kits.{Admits, AdmitsAll, AreClosed, FitsAll, IsCallers, IsFinal, IsUncut, JoinsAll, IsFrontOfWorkers};
 ghost use Rattle.snap_service.specs.Courses.{fronts_of};
-ghost use Rattle.snap_service.specs.States.{AreDealt, AreNewKits, AreSeated, IsOpened, IsSeated, nowhere, pass_at, place_of};
+ghost use Rattle.snap_service.specs.States.{AreDealt, AreNewKits, AreSeated, AreTablesOf, IsSeated, nowhere, pass_at, table_place};
 
 use snap_model::{Name, OutOfMemory};
 use snap_table::{Front, Pass, SnapTable, TableView};
+use snap_text::{MOST_ROWS, MOST_TABLES};
 use std::alloc::Global;
 use std::marker::Model;
 use std::sync::Wait;
-
-/// The most tables of a service.
-pub const MOST_TABLES: usize = 8;
-
-/// The most rows of a table.
-pub const MOST_ROWS: u32 = 1_048_576;
 
 /// Tables by name. Contracts see their names, sizes and rows, and how many kits there are.
 #[derive(Drop)]
@@ -47,7 +42,7 @@ pub struct Kit {
 }
 
 impl Model for Kit {
-    ghost use Rattle.std.specs.Prelude.{◌≡◌, ◌≤◌, List, [], length, vec_capacity};
+    ghost use Rattle.std.specs.Prelude.{[], ◌≡◌, ◌≤◌, length, List, vec_capacity};
     ghost use Rattle.snap_prelude.specs.{Known};
 
     ghost Value = { List Known };
@@ -122,7 +117,7 @@ impl Service {
         requires few_rows { rows ≤ MOST_ROWS }
         requires a_kit { 1 ≤ kits }
         requires few_kits { kits ≤ 33 }
-        ensures service { IfOk result (λ opened. IsOpened opened.0 names.now rows kits) }
+        ensures service { IfOk result (λ opened. AreTablesOf opened.0 names.now rows kits) }
         ensures kits { IfOk result (λ opened. AreNewKits opened.0.laid opened.1.items kits) }
         ensures seated { IfOk result (λ opened. All (AreSeated opened.0) opened.1.items) }
     {
@@ -144,7 +139,7 @@ impl Service {
 
     /// Where the table of a name stands.
     pub(crate) fn place_of(&self, name: &Name) -> Option<usize>
-        ensures { result ≡ place_of self.now.names name.now }
+        ensures { result ≡ table_place self.now.names name.now }
     {
         let wanted = name.text();
         self.names.iter().position(|known| known.text() == wanted)
@@ -201,7 +196,7 @@ impl Service {
         ensures closed { AreClosed kit result }
         ensures fits { IsCallers self kit → FitsAll self kit result }
         ensures only { IsCallers self kit → (t : ℕ)
-            → OnlyWorkers (self.kits - 1) t (fronts_of result t) }
+            → IsFrontOfWorkers (self.kits - 1) t (fronts_of result t) }
     {
         let Service {
             names: _,

@@ -2,7 +2,7 @@
 ghost use Rattle.std.specs.Prelude.{◌≡◌, ◌<◌, ◌≤◌, ◌+◌, ◌^◌, ◌++◌, IfOk, IfErr, OnOk, OnErr};
 ghost use Rattle.snap_service.specs.Runs.{IsFresh, ServesOn};
 ghost use Rattle.snap_service.specs.Serving.{CanRun, MayWantMemory, Serves, text_of};
-ghost use Rattle.snap_service.specs.States.{AreSeated, free_slots, most_uses, opened};
+ghost use Rattle.snap_service.specs.States.{AreSeated, free_slots, most_uses, new_session};
 
 mod conditions;
 mod serving;
@@ -10,12 +10,10 @@ mod serving;
 use crate::{Kit, KitReceipt, Loads, Service};
 use snap_model::{Command, OutOfMemory, Reply};
 use snap_table::{Pass, TableView};
+use snap_text::MOST_CLONES;
 use std::alloc::Global;
 use std::marker::Model;
 use std::sync::Wait;
-
-/// How many clones of a session may live at once.
-pub const SLOTS: usize = 64;
 
 /// A run of commands on the tables of a service, by the passes of one kit.
 #[derive(Drop)]
@@ -27,9 +25,9 @@ pub struct Session<'t> {
 }
 
 impl<'t> Model for Session<'t> {
-    ghost use Rattle.snap_service.specs.States.{State, IsWellFormed};
+    ghost use Rattle.snap_service.specs.States.{SessionState, IsWellFormed};
 
-    ghost Value = { State };
+    ghost Value = { SessionState };
 
     ghost view = { λ s.
         record {
@@ -57,7 +55,7 @@ impl<'t> Session<'t> {
         kit: Kit,
     ) -> Result<Session<'t>, (Kit, OutOfMemory)>
         requires { AreSeated service.now kit }
-        ensures ok { IfOk result (λ session. session ≡ opened service.now kit) }
+        ensures ok { IfOk result (λ session. session ≡ new_session service.now kit) }
         ensures begins { IfOk result (λ session. IsFresh service.now kit session) }
         ensures err { IfErr result (λ refusal. refusal.0 ≡ kit) }
     {
@@ -138,8 +136,8 @@ fn most_uses(passes: &[Pass]) -> u64
 fn free_slots<'t>(alloc: Global) -> Result<Vec<Option<(usize, TableView<'t>)>>, OutOfMemory>
     ensures { IfOk result (λ slots. slots.items ≡ free_slots) }
 {
-    let mut slots = Vec::with_capacity(alloc, SLOTS)?;
-    for _ in 0..SLOTS {
+    let mut slots = Vec::with_capacity(alloc, MOST_CLONES)?;
+    for _ in 0..MOST_CLONES {
         slots.push(None)?;
     }
     Ok(slots)

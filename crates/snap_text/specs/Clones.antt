@@ -1,12 +1,16 @@
--- The live clones of a script: each of 64 slots is free or has the name of its clone.
+-- The live clones of a script: each of its slots is free or has the name of its clone.
 use Rattle.std.specs.Prelude.{ℕ, Bool, false, List, Option, Some, None, bytes_eq, is_none, position, replicate, slice_set}
 
 abbrev pub Slots : Type 0
 Slots = List (Option (List ℕ))
 
+-- how many clones of a script may live at once
+abbrev pub most_clones : ℕ
+most_clones = 64
+
 -- the slots of a script that begins
 unfoldable pub all_free : Slots
-all_free = replicate 64 None
+all_free = replicate most_clones None
 
 -- the clone in a slot has this name
 abbrev pub has_name : List ℕ → Option (List ℕ) → Bool

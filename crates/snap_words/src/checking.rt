@@ -9,11 +9,13 @@ ghost use Rattle.snap_words.specs.Words.{has_choice, has_names, has_numbers, is_
 ghost use Rattle.snap_words.specs.Checks.{checked, numbers_in};
 
 use crate::command_line::Given;
-use crate::words::{DEFAULT_ROWS, MOST_ROWS, MOST_SCRIPTS, MOST_WORKERS, WordsRefusal};
-use snap_text::{is_file, read_number};
+use crate::words::{DEFAULT_ROWS, MOST_SCRIPTS, MOST_WORKERS, WordsRefusal};
+use snap_text::{MOST_ROWS, is_file, read_number};
 
+/// The most commands that are made.
 const MOST_COMMANDS: u32 = 1_000_000;
 
+/// The greatest seed of made scripts.
 const MOST_SEED: u32 = 2_147_483_647;
 
 /// The numbers that the words give, or the usual ones.

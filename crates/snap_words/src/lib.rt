@@ -11,6 +11,5 @@ mod words;
 
 pub use names::NameList;
 pub use words::{
-    DEFAULT_ROWS, Job, MOST_ROWS, MOST_SCRIPTS, MOST_WORKERS, WordsFault, WordsRefusal, Work,
-    read_words,
+    DEFAULT_ROWS, Job, MOST_SCRIPTS, MOST_WORKERS, WordsFault, WordsRefusal, Work, read_words,
 };

@@ -15,9 +15,6 @@ use thiserror::Error;
 /// The rows of a table where the words give none.
 pub const DEFAULT_ROWS: u32 = 65_536;
 
-/// The most rows of a table.
-pub const MOST_ROWS: u32 = 1_048_576;
-
 /// The most scripts of a run.
 pub const MOST_SCRIPTS: usize = 32;
 

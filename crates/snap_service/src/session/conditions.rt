@@ -1,7 +1,7 @@
 //! Whether a session can run a command.
 ghost use Rattle.std.specs.Prelude.{◌↔◌, All, IsTrue};
-ghost use Rattle.snap_service.specs.Serving.{CanRun, FitsValue};
-ghost use Rattle.snap_service.specs.States.{IsFree, IsTaken};
+ghost use Rattle.snap_service.specs.{Serving.CanRun, States.HasFreeSlot, States.IsTaken};
+ghost use Rattle.snap_text.specs.Numbers.{FitsValue};
 
 use super::Session;
 use crate::Loads;
@@ -41,7 +41,7 @@ impl<'t> Session<'t> {
     }
 
     fn is_free(&self, slot: u8) -> bool
-        ensures { IsTrue result ↔ IsFree self.now slot }
+        ensures { IsTrue result ↔ HasFreeSlot self.now slot }
     {
         let place = slot as usize;
         place < self.clones.len() && self.clones[place].is_none()

@@ -3,13 +3,11 @@ ghost use Rattle.std.specs.Prelude.{◌≡◌, ◌<◌, ◌≤◌, ◌+◌, ◌^
 ghost use Rattle.snap_fits.specs.Fits.{put_reply, remove_reply, value_reply};
 ghost use Rattle.snap_prelude.specs.{after, Cloned, count, IsOf, Known, Put, range, Remove};
 ghost use Rattle.snap_search.specs.Prelude.{Reads};
-ghost use Rattle.snap_table.specs.Calls.{IsIdle};
-ghost use Rattle.snap_table.specs.Clones.{Cuts};
-ghost use Rattle.snap_text.specs.LoadFiles.{HasFile, pairs_of};
-ghost use Rattle.snap_text.specs.Tables.{table_text};
+ghost use Rattle.snap_table.specs.{Calls.IsIdle, Clones.Cuts};
+ghost use Rattle.snap_text.specs.{LoadFiles.HasFile, LoadFiles.pairs_of, Tables.table_text, Numbers.FitsValue};
 ghost use Rattle.snap_service.specs.Kinds.{Asks, IsOnSlot, IsOnTable};
-ghost use Rattle.snap_service.specs.Serving.{CanRun, FitsValue, Loaded, Measured, MayWantMemory, Serves, Wrote, clone_map, text_of};
-ghost use Rattle.snap_service.specs.States.{HasTable, IsFree, IsTaken, clone_at, most_uses, pass_in_use, with_pass, with_slot, with_use};
+ghost use Rattle.snap_service.specs.Serving.{CanRun, LoadsPairs, Measured, MayWantMemory, Serves, Wrote, clone_map, text_of};
+ghost use Rattle.snap_service.specs.States.{HasTable, HasFreeSlot, IsTaken, clone_at, most_uses, pass_in_use, with_pass, with_slot, with_use};
 
 use super::Session;
 use crate::asking::{ceiling, count, first, floor, higher, last, lower, measure, see};
@@ -167,7 +165,7 @@ impl<'t> Session<'t> {
     }
 
     fn snap<R: Wait>(&mut self, rt: &R, slot: u8) -> Reply
-        requires free { IsFree self.old slot }
+        requires free { HasFreeSlot self.old slot }
         requires uses { most_uses self.old.passes < 2 ^ 48 }
         ensures reply { result ≡ Reply.Snapped }
         ensures cut { (pass : Known) × (clone : Cloned)
@@ -196,7 +194,7 @@ impl<'t> Session<'t> {
         requires values { All (λ (pair : ℕ × ℕ). FitsValue pair.1) (pairs_of loads.now file.now) }
         requires uses { most_uses self.old.passes < 2 ^ 47 }
         ensures { (pass : Known) × (self.new ≡ with_pass self.old pass)
-            × Loaded self.old.tables.rows (pairs_of loads.now file.now)
+            × LoadsPairs self.old.tables.rows (pairs_of loads.now file.now)
             (pass_in_use self.old) result pass }
     {
         let pairs = loads.pairs_of(file);
@@ -281,7 +279,7 @@ fn put_all<R: Wait>(table: &SnapTable, rt: &R, pass: &mut Pass, pairs: &[(Key, u
     requires idle { IsIdle pass.old.view }
     requires values { All (λ (pair : ℕ × ℕ). FitsValue pair.1) pairs.now }
     requires uses { pass.old.view.uses + length pairs.now ≤ 2 ^ 48 }
-    ensures loaded { Loaded table.now.rows pairs.now pass.old result pass.new }
+    ensures loaded { LoadsPairs table.now.rows pairs.now pass.old result pass.new }
 {
     let mut made = 0;
     for pair in pairs {

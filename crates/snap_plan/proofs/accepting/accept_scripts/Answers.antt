@@ -35,9 +35,9 @@ returns-in_err-loads-clause-stops g c =
     let read = subst (λ (ns : List (List ℕ)). IfTold files (λ f. scripts_in f ns ≡ Ok scripts)) c.list.ensures c.in_ok-scripts.ensures.scripts in
     let stop = c.in_err-loads.field-0.0 in
     let rose = Rose (g.S.Shelf.read_faults c.read_scripts.new.shelf) (g.S.Shelf.read_faults c.read_loads.new.shelf) in
-    let stops = subst (λ fs. StopsBy fs (λ f. loads_in f named) (λ f. named) rose stop) c.in_ok-scripts.ensures.files c.in_err-loads.ensures.stops in
+    let stops = subst (λ fs. StopsBy fs (λ f. loads_in f named) (λ f. named) rose stop) c.in_ok-scripts.ensures.only_reads.same_files c.in_err-loads.ensures.stops in
     if_err _ _ stop c.from_residual-in_err-loads.ensures.1
-    (stops_lift files (λ f. loads_in f named) (plan_of_scripts c.args.rows last names) (λ f. named) (inputs_for last (Scripts names)) rose _ (λ risen. rose_behind _ _ _ c.in_ok-scripts.ensures.later risen)
+    (stops_lift files (λ f. loads_in f named) (plan_of_scripts c.args.rows last names) (λ f. named) (inputs_for last (Scripts names)) rose _ (λ risen. rose_behind _ _ _ c.in_ok-scripts.ensures.only_reads.later risen)
     (loads_lift c.args.rows last names files scripts named read none is_named) stop stops)
 
 pub returns-clause-runnable : goal.returns-clause-runnable

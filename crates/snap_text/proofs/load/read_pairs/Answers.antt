@@ -5,14 +5,14 @@ use Rattle.snap_text.proofs.Loading.{accepted, few_pairs, not_too_long, only_hea
 use Rattle.snap_text.proofs.Records.{fails_alone_of_memory, no_more_row}
 use Rattle.snap_text.proofs.load.read_pairs.Goals as goal
 
-pub returns-then-bytes-gt-MOST_BYTES-clause-refused :
-    goal.returns-then-bytes-gt-MOST_BYTES-clause-refused
-returns-then-bytes-gt-MOST_BYTES-clause-refused c = inr (too_long c.args.bytes.now c.if-bytes-gt-MOST_BYTES.true)
+pub returns-then-bytes-gt-MOST_LOAD_BYTES-clause-refused :
+    goal.returns-then-bytes-gt-MOST_LOAD_BYTES-clause-refused
+returns-then-bytes-gt-MOST_LOAD_BYTES-clause-refused c = inr (too_long c.args.bytes.now c.if-bytes-gt-MOST_LOAD_BYTES.true)
 
 pub returns-in_err-rows-clause-refused : goal.returns-in_err-rows-clause-refused
 returns-in_err-rows-clause-refused c =
     let p = err_from_is_err_and c.from_residual.result c.from_residual.ensures.1 in
-    let whole = not_too_long c.args.bytes.now c.if-bytes-gt-MOST_BYTES.false in
+    let whole = not_too_long c.args.bytes.now c.if-bytes-gt-MOST_LOAD_BYTES.false in
     rw (p.1, p.2) (elim c.in_err-rows.ensures.refused [ inl memory ↦ inl memory | inr is ↦ inr (whole ∙ is) ])
 
 pub loop-row-init : goal.loop-row-init
@@ -28,7 +28,7 @@ loop-row-init c =
 pub add_pair-requires-clause-few : goal.add_pair-requires-clause-few
 add_pair-requires-clause-few c =
     let so_far = c.loop-row.invariant in
-    few_pairs c.args.bytes.now so_far.rows c.loop-row.pairs (reader_state (owned_rows_reader c.loop-row.row-iterator)) so_far.reading.bytes c.if-bytes-gt-MOST_BYTES.false so_far.pairs so_far.reading.reached
+    few_pairs c.args.bytes.now so_far.rows c.loop-row.pairs (reader_state (owned_rows_reader c.loop-row.row-iterator)) so_far.reading.bytes c.if-bytes-gt-MOST_LOAD_BYTES.false so_far.pairs so_far.reading.reached
 
 pub add_pair-requires-clause-memory : goal.add_pair-requires-clause-memory
 add_pair-requires-clause-memory c =
@@ -45,7 +45,7 @@ returns-in_err-add_pair-clause-refused c =
     rw (p.1, p.2) (elim c.in_err-add_pair.ensures.refused [
       | inl memory ↦ inl memory
       | inr is ↦ inr (pair_refused c.args.bytes.now so_far.rows c.loop-row.pairs c.loop-row.row-iterator c.next.new.self c.in-Some.row c.in_err-add_pair.field-0.0
-          c.if-bytes-gt-MOST_BYTES.false r so_far.pairs (step.0 r.is_ready, step.3) is)
+          c.if-bytes-gt-MOST_LOAD_BYTES.false r so_far.pairs (step.0 r.is_ready, step.3) is)
     ])
 
 pub loop-row-preserved : goal.loop-row-preserved
@@ -62,10 +62,10 @@ returns-clause-ok c =
     let so_far = c.loop-row.invariant in
     let r = so_far.reading in
     let step = c.in-None.ensures.steps r.goes_on r.keeps_blanks in
-    accepted c.args.bytes.now so_far.rows c.loop-row.pairs c.if-bytes-gt-MOST_BYTES.false so_far.pairs
+    accepted c.args.bytes.now so_far.rows c.loop-row.pairs c.if-bytes-gt-MOST_LOAD_BYTES.false so_far.pairs
     (no_more_row (strip_bom c.args.bytes.now) so_far.rows c.loop-row.row-iterator c.next.new.self r (step.0 r.is_ready))
 
 pub returns-clause-few : goal.returns-clause-few
 returns-clause-few c =
     let so_far = c.loop-row.invariant in
-    few_pairs c.args.bytes.now so_far.rows c.loop-row.pairs (reader_state (owned_rows_reader c.loop-row.row-iterator)) so_far.reading.bytes c.if-bytes-gt-MOST_BYTES.false so_far.pairs so_far.reading.reached
+    few_pairs c.args.bytes.now so_far.rows c.loop-row.pairs (reader_state (owned_rows_reader c.loop-row.row-iterator)) so_far.reading.bytes c.if-bytes-gt-MOST_LOAD_BYTES.false so_far.pairs so_far.reading.reached
