@@ -6,4 +6,6 @@ mod order;
 #[cfg(test)]
 mod pieces;
 #[cfg(test)]
+mod posts;
+#[cfg(test)]
 mod threads;

@@ -39,7 +39,8 @@ pub(crate) fn is_text<R: Abort>(rt: &R, found: &str, want: &str) {
     assert_eq!(rt; found, want);
 }
 
-fn piece_of(alloc: Global, worker: u32, number: u64) -> Result<Piece, OutOfMemory> {
+/// The worker's piece of this number.
+pub(crate) fn piece_of(alloc: Global, worker: u32, number: u64) -> Result<Piece, OutOfMemory> {
     let mut bytes = Vec::new(alloc);
     bytes.extend_from_slice(b"bytes")?;
     Ok(Piece {

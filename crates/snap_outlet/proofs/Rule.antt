@@ -14,7 +14,7 @@ use Rattle.snap_outlet.specs.declared.view.Tally.{Tally}
 use Rattle.snap_outlet.specs.declared.view.View.{View}
 use Rattle.snap_outlet.specs.declared.view.View.TheVariants.{Sends, Takes, Gathered}
 use Rattle.snap_outlet.specs.Outlets.{IsAll, IsInOrder, pieces_of}
-use Rattle.snap_outlet.specs.Rule.{Books, Delivers, Fetched, Fits, FitsFinished, FoundNone, IsUnmade, after_making, first, gathered, made, posted, sent_in, tally_in}
+use Rattle.snap_outlet.specs.Rule.{Books, Delivers, Fetched, FitsSeat, FitsFinished, FoundNone, IsUnmade, after_making, first, gathered, made_sender, posted, sent_in, tally_in}
 use Rattle.snap_outlet.specs.Seats.{IsSenders, IsTakers}
 use Rattle.snap_outlet.proofs.Pieces.{pieces-append, pieces-own, pieces-other, ends_with_one, begins_itself, begins_on, begins_nothing}
 
@@ -48,7 +48,7 @@ module _ (b : Books) (x : Parcel) (seat : ℕ) (mine : b.seat x.sender ≡ some 
   post_unmade : (s : ℕ) → IsUnmade b s → IsUnmade after_post s
   post_unmade s f = record { unseated = f.unseated; silent = sym (sent_same s (is_seated b.seat seat x.sender s mine f.unseated)) ∙ f.silent }
 
-  post_keeps : (items : List Parcel) (j : ℕ) (u : View) → j ≢ seat → Fits b items j u → Fits after_post (items ++ x ∷ []) j u
+  post_keeps : (items : List Parcel) (j : ℕ) (u : View) → j ≢ seat → FitsSeat b items j u → FitsSeat after_post (items ++ x ∷ []) j u
   post_keeps items j (Sends s) n f = record {
     seated = f.seated;
     knows = f.knows ∙ sent_same s.sender (one_seat b.seat seat j x.sender s.sender mine f.seated (λ e. n (sym e)));
@@ -73,7 +73,7 @@ posts_one n seat s x from items views _ h at =
       record {
         books = now;
         delivers = λ q. ap (pieces_of q) (sym (append_assoc b.taken items (x ∷ []))) ∙ pieces-append q (b.taken ++ items) (x ∷ []) ∙ ap (λ l. l ++ pieces_of q (x ∷ [])) (h.delivers q);
-        fits = each_set (Fits now (items ++ x ∷ [])) views seat w
+        fits = each_set (FitsSeat now (items ++ x ∷ [])) views seat w
             (record { seated = mine.seated; knows = ap (λ l. l ++ x.piece ∷ []) mine.knows ∙ ap (λ l. b.sent s.sender ++ l) (sym (pieces-own s.sender x [] (sym from))) })
             (λ j u other e. post_keeps b x seat seated items j u other (h.fits j u e));
       },
@@ -91,7 +91,7 @@ module _ (b : Books) (x : Parcel) where
   fetch_finished : (senders : ℕ) (s : Sent) → FitsFinished b senders s → FitsFinished after_fetch senders s
   fetch_finished senders s f = record { made = f.made; left = f.left; knows = f.knows }
 
-  fetch_keeps : (items : List Parcel) (j : ℕ) (u : View) → j ≢ b.taker → Fits b (x ∷ items) j u → Fits after_fetch items j u
+  fetch_keeps : (items : List Parcel) (j : ℕ) (u : View) → j ≢ b.taker → FitsSeat b (x ∷ items) j u → FitsSeat after_fetch items j u
   fetch_keeps items j (Sends s) n f = record { seated = f.seated; knows = f.knows }
   fetch_keeps items j (Takes t) n f = absurd (n f.alone)
   fetch_keeps items j Gathered n f = tt
@@ -124,7 +124,7 @@ fetches_one seat t x items views h at =
       record {
         books = now;
         delivers = delivers;
-        fits = each_set (Fits now items) views seat (Takes u)
+        fits = each_set (FitsSeat now items) views seat (Takes u)
             (record {
               alone = mine.alone;
               knows = ap (λ l. l ++ x ∷ []) mine.knows;
@@ -173,7 +173,7 @@ module _ (b : Books) (s : Sent) (seat : ℕ) (mine : b.seat s.sender ≡ some se
   gather_unmade : (q : ℕ) → IsUnmade b q → IsUnmade after_gather q
   gather_unmade q h = record { unseated = none_if (s.sender == q) (b.seat q) h.unseated; silent = h.silent }
 
-  gather_keeps : (items : List Parcel) (j : ℕ) (u : View) → j ≢ seat → Fits b items j u → Fits after_gather items j u
+  gather_keeps : (items : List Parcel) (j : ℕ) (u : View) → j ≢ seat → FitsSeat b items j u → FitsSeat after_gather items j u
   gather_keeps items j (Sends o) n f = record {
     seated = rw (ne_eqb s.sender o.sender (one_seat b.seat seat j s.sender o.sender mine f.seated (λ e. n (sym e)))) f.seated;
     knows = f.knows;
@@ -197,7 +197,7 @@ gathers_one seat t other s items views h at two at' =
     let now = after_gather b s other theirs.seated in
     let made' : s.sender < t.senders = below s.sender t.senders (λ over. is_seated b.seat other s.sender s.sender theirs.seated (mine.unmade s.sender over).unseated refl) in
     let done : FitsFinished now t.senders s = record { made = made'; left = rw (eq-eqb s.sender s.sender refl) refl; knows = theirs.knows } in
-    let Now : ℕ → View → Type 0 = λ j u. j ≢ other → Fits now items j u in
+    let Now : ℕ → View → Type 0 = λ j u. j ≢ other → FitsSeat now items j u in
     let each : Each Now (set views seat w) = each_set Now views seat w
     (λ _. record {
       alone = mine.alone;
@@ -212,7 +212,7 @@ gathers_one seat t other s items views h at two at' =
     record {
       books = now;
       delivers = h.delivers;
-      fits = each_set (Fits now items) (set views seat w) other Gathered tt (λ j u apart e. each j u e apart);
+      fits = each_set (FitsSeat now items) (set views seat w) other Gathered tt (λ j u apart e. each j u e apart);
     }
 
 pub gathers : (seat : ℕ) (v : View) (other : ℕ) (u : View) → IsTakers v → IsSenders u → Merges Delivers seat v other u (gathered v u) Gathered
@@ -237,7 +237,7 @@ pub begins : Delivers [] (first ∷ [])
 begins = record {
   books = no_books;
   delivers = λ _. refl;
-  fits = each_more (Fits no_books []) [] first (λ j u e. absurd (some-ne-none u (sym e))) (record {
+  fits = each_more (FitsSeat no_books []) [] first (λ j u e. absurd (some-ne-none u (sym e))) (record {
     alone = refl;
     knows = refl;
     waits = begins_itself [];
@@ -266,7 +266,7 @@ module _ (b : Books) (senders place : ℕ) (free : IsUnmade b senders) where
     silent = f.silent;
   }
 
-  make_keeps : (items : List Parcel) (j : ℕ) (u : View) → j ≢ b.taker → Fits b items j u → Fits after_make items j u
+  make_keeps : (items : List Parcel) (j : ℕ) (u : View) → j ≢ b.taker → FitsSeat b items j u → FitsSeat after_make items j u
   make_keeps items j (Sends o) n f = record {
     seated = still o.sender (λ e. is_seated b.seat j o.sender senders f.seated free.unseated (sym e)) ∙ f.seated;
     knows = f.knows;
@@ -274,7 +274,7 @@ module _ (b : Books) (senders place : ℕ) (free : IsUnmade b senders) where
   make_keeps items j (Takes t) n f = absurd (n f.alone)
   make_keeps items j Gathered n f = tt
 
-makes_one : (seat : ℕ) (t : Tally) → Forks Delivers seat (Takes t) (after_making (Takes t)) (made (Takes t))
+makes_one : (seat : ℕ) (t : Tally) → Forks Delivers seat (Takes t) (after_making (Takes t)) (made_sender (Takes t))
 makes_one seat t items views h at =
     let b = h.books in
     let mine = h.fits seat (Takes t) at in
@@ -282,7 +282,7 @@ makes_one seat t items views h at =
     let l : View = after_making (Takes t) in
     let vs : List View = set views seat l in
     let now = after_make b t.senders (length vs) free in
-    let old : Each (Fits now items) vs = each_set (Fits now items) views seat l
+    let old : Each (FitsSeat now items) vs = each_set (FitsSeat now items) views seat l
     (record {
       alone = mine.alone;
       knows = mine.knows;
@@ -294,11 +294,11 @@ makes_one seat t items views h at =
     record {
       books = now;
       delivers = h.delivers;
-      fits = each_more (Fits now items) vs (made (Takes t)) old (record {
+      fits = each_more (FitsSeat now items) vs (made_sender (Takes t)) old (record {
         seated = rw (eq-eqb t.senders t.senders refl) refl;
         knows = sym free.silent;
       });
     }
 
-pub makes : (seat : ℕ) (v : View) → IsTakers v → Forks Delivers seat v (after_making v) (made v)
-makes seat v is = subst (λ (u : View). Forks Delivers seat u (after_making u) (made u)) (sym is) (makes_one seat (tally_in v))
+pub makes : (seat : ℕ) (v : View) → IsTakers v → Forks Delivers seat v (after_making v) (made_sender v)
+makes seat v is = subst (λ (u : View). Forks Delivers seat u (after_making u) (made_sender u)) (sym is) (makes_one seat (tally_in v))

@@ -1,7 +1,9 @@
 -- What contracts see of a worker's post, and what the caller knows of the posts of all workers.
-use Rattle.std.specs.Prelude.{◌≡◌, ◌<◌, ◌+◌, ℕ, List, [], ◌∷◌, ◌++◌, length, map, slice_index_or}
+use Rattle.std.specs.Prelude.{◌≡◌, ◌≢◌, ◌<◌, ◌+◌, ℕ, List, [], ◌∷◌, ◌++◌, length, map, slice_index_or}
 use Rattle.snap_model.specs.History.{Begins}
 use Rattle.snap_outlet.specs.declared.piece.Piece.{Piece}
+use Rattle.snap_outlet.specs.declared.post.Put.{Put}
+use Rattle.snap_outlet.specs.declared.post.Put.TheVariants as put
 use Rattle.snap_outlet.specs.declared.view.Parcel.{Parcel}
 use Rattle.snap_outlet.specs.declared.view.Sent.{Sent}
 use Rattle.snap_outlet.specs.Outlets.{OutletId, SenderAt, pieces_of}
@@ -26,6 +28,11 @@ pub record PutsOn (p : PostAt) (more : List Piece) (q : PostAt) : Type 0 where
   pub sender : q.sent.sender ≡ p.sent.sender
   pub put : put_at q ≡ put_at p ++ more
   pub sent : Begins p.sent.pieces q.sent.pieces
+
+-- what is told of a piece that was put, by what waits at the post then
+abbrev pub IsPut : Put → List Piece → Type 0
+IsPut put.Sent waiting = waiting ≡ []
+IsPut put.Kept waiting = waiting ≢ []
 
 -- pieces under the number of one sender
 abbrev pub parcels : ℕ → List Piece → List Parcel

@@ -55,16 +55,16 @@ pub record FitsTaker (b : Books) (items : List Parcel) (seat : ℕ) (t : Tally) 
   pub finished : All (FitsFinished b t.senders) t.finished
   pub unmade : (sender : ℕ) → t.senders ≤ sender → IsUnmade b sender
 
-abbrev pub Fits : Books → List Parcel → ℕ → View → Type 0
-Fits b items seat (Sends s) = FitsSender b seat s
-Fits b items seat (Takes t) = FitsTaker b items seat t
-Fits b items seat Gathered = Unit {0}
+abbrev pub FitsSeat : Books → List Parcel → ℕ → View → Type 0
+FitsSeat b items seat (Sends s) = FitsSender b seat s
+FitsSeat b items seat (Takes t) = FitsTaker b items seat t
+FitsSeat b items seat Gathered = Unit {0}
 
 -- what was taken of each sender, and then what the queue holds of it, is what it sent, in its order
 pub record Delivers (items : List Parcel) (views : List View) : Type 0 where
   pub books : Books
   pub delivers : (sender : ℕ) → pieces_of sender (books.taken ++ items) ≡ books.sent sender
-  pub fits : (seat : ℕ) (v : View) → get_elem? views seat ≡ some v → Fits books items seat v
+  pub fits : (seat : ℕ) (v : View) → get_elem? views seat ≡ some v → FitsSeat books items seat v
 
 -- the first seat is the taker's
 abbrev pub first : View
@@ -92,5 +92,5 @@ gathered v w = Takes (record (tally_in v) { finished = (tally_in v).finished ++ 
 abbrev pub after_making : View → View
 after_making v = Takes (record (tally_in v) { senders = (tally_in v).senders + 1 })
 
-abbrev pub made : View → View
-made v = Sends (record { sender = (tally_in v).senders; pieces = [] })
+abbrev pub made_sender : View → View
+made_sender v = Sends (record { sender = (tally_in v).senders; pieces = [] })

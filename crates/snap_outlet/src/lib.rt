@@ -9,4 +9,4 @@ mod view;
 
 pub use outlet::{MOST_SENDERS, OutReceipt, OutSender, Outlet, Taker};
 pub use piece::{Piece, PieceBytes};
-pub use post::Post;
+pub use post::{Post, Put};

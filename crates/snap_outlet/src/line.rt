@@ -55,11 +55,11 @@ impl Join<View> for Gathers {
 pub(crate) struct Makes;
 
 impl Split<View> for Makes {
-    ghost use Rattle.snap_outlet.specs.Rule.{after_making, made};
+    ghost use Rattle.snap_outlet.specs.Rule.{after_making, made_sender};
 
     ghost left = { after_making };
 
-    ghost right = { made };
+    ghost right = { made_sender };
 }
 
 pub(crate) type Line = RuledSegQueue<Parcel, View, InOrder>;

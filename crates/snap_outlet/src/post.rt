@@ -1,8 +1,8 @@
 //! Where a worker puts its pieces: they go to its sender, and wait with it, in their order, where the outlet finds no
 //! memory.
-ghost use Rattle.std.specs.Prelude.{◌≡◌, ◌+◌, ◌≤◌, ◌∷◌, ◌++◌, [], All, OnErr, OnOk, map, vec_capacity, vec_len};
+ghost use Rattle.std.specs.Prelude.{◌≡◌, ◌≢◌, ◌+◌, ◌≤◌, ◌∷◌, ◌++◌, [], All, IfOk, OnErr, OnOk, map, vec_capacity, vec_len};
 ghost use Rattle.snap_outlet.specs.Outlets.{with_receipts};
-ghost use Rattle.snap_outlet.specs.Posts.{PutsOn, new_post};
+ghost use Rattle.snap_outlet.specs.Posts.{IsPut, PutsOn, new_post};
 
 use crate::outlet::{OutReceipt, OutSender, Outlet, Taker};
 use crate::piece::Piece;
@@ -11,6 +11,15 @@ use std::alloc::Global;
 use std::collections::VecDeque;
 use std::marker::Model;
 use std::sync::Wait;
+
+/// What became of a piece that was put at a post.
+#[derive(Clone, Copy, Debug, PartialEq, Eq)]
+pub enum Put {
+    /// It is sent, with all that was put before it.
+    Sent,
+    /// It waits behind what the outlet found no memory for, or is that itself.
+    Kept,
+}
 
 /// What one worker puts pieces out with. Contracts see what it has sent, and what waits for memory.
 #[derive(Drop)]
@@ -52,22 +61,23 @@ impl Post {
 }
 
 impl Outlet {
-    /// Puts a piece out behind all that the post has put: it is sent, unless pieces wait or the outlet finds no memory, and
-    /// else it waits. Want of memory comes only where it can't wait either; then it is lost, and nothing else.
+    /// Puts a piece out behind all that the post has put: it is sent, and nothing waits any more; or the outlet found no
+    /// memory for it or for one before it, and it waits. Want of memory comes only where it can't wait either; then it
+    /// is lost, and nothing else.
     pub fn put_piece<R: Wait>(
         &self,
         rt: &R,
         post: &mut Post,
         piece: Piece,
-    ) -> Result<(), OutOfMemory>
+    ) -> Result<Put, OutOfMemory>
         requires { post.old.outlet ≡ self.now }
         ensures put { OnOk result (PutsOn post.old (piece ∷ []) post.new) }
+        ensures told { IfOk result (λ put. IsPut put post.new.waiting) }
         ensures stays { OnErr result (PutsOn post.old [] post.new) }
     {
-        self.put_waiting(rt, post);
-        if !post.waiting.is_empty() {
+        if self.put_waiting(rt, post).is_err() {
             post.waiting.push_back(piece)?;
-            return Ok(());
+            return Ok(Put::Kept);
         }
         self.send_or_keep(rt, post, piece)
     }
@@ -78,29 +88,36 @@ impl Outlet {
         rt: &R,
         post: &mut Post,
         piece: Piece,
-    ) -> Result<(), OutOfMemory>
+    ) -> Result<Put, OutOfMemory>
         requires outlet { post.old.outlet ≡ self.now }
         requires empty { post.old.waiting ≡ [] }
         ensures put { OnOk result (PutsOn post.old (piece ∷ []) post.new) }
+        ensures told { IfOk result (λ put. IsPut put post.new.waiting) }
         ensures stays { OnErr result (post.new ≡ post.old) }
     {
-        if let Err((piece, _)) = self.send(rt, &mut post.sender, piece) {
-            post.waiting.push_back(piece)?;
-        }
-        Ok(())
-    }
-
-    /// Sends what waits at a post, up to the first piece for which the outlet finds no memory.
-    pub fn put_waiting<R: Wait>(&self, rt: &R, post: &mut Post)
-        requires { post.old.outlet ≡ self.now }
-        ensures { PutsOn post.old [] post.new }
-    {
-        while let Some(piece) = post.waiting.pop_front() {
-            if let Err((piece, _)) = self.send(rt, &mut post.sender, piece) {
-                post.waiting.push_front_reserved(piece);
-                return;
+        match self.send(rt, &mut post.sender, piece) {
+            Ok(()) => Ok(Put::Sent),
+            Err((piece, _)) => {
+                post.waiting.push_back(piece)?;
+                Ok(Put::Kept)
             }
         }
+    }
+
+    /// Sends what waits at a post: all of it, or up to the first piece for which the outlet finds no memory.
+    pub fn put_waiting<R: Wait>(&self, rt: &R, post: &mut Post) -> Result<(), OutOfMemory>
+        requires { post.old.outlet ≡ self.now }
+        ensures stays { PutsOn post.old [] post.new }
+        ensures all { OnOk result (post.new.waiting ≡ []) }
+        ensures some { OnErr result (post.new.waiting ≢ []) }
+    {
+        while let Some(piece) = post.waiting.pop_front() {
+            if let Err((piece, no_memory)) = self.send(rt, &mut post.sender, piece) {
+                post.waiting.push_front_reserved(piece);
+                return Err(no_memory);
+            }
+        }
+        Ok(())
     }
 
     /// Ends the posts of all workers, in their order: the taker gets to know what each of them sent. What waits at them goes

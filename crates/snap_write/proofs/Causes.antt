@@ -1,5 +1,5 @@
 -- Why a file could not be written.
-use Rattle.std.specs.Prelude.{◌||◌, IsErrAnd, IfErr, OnErr, bytes_eq}
+use Rattle.std.specs.Prelude.{◌||◌, IsErrAnd, IfErr, bytes_eq}
 use Rattle.std.specs.List.{list_any}
 use Rattle.std.proofs.Common.{◌≡◌, ◌⊎◌, ◌≤◌, ◌<◌, ℕ, Bool, true, false, List, [], ◌∷◌, get_or, length, Result, Ok, Err, inl, inr, refl, sym, ◌∙◌, ap, subst, arith}
 use Rattle.std.proofs.lemmas.List.Folds.{list_any_at}
@@ -20,11 +20,11 @@ here name = (bytes_eq-Decides name name).1 refl
 
 -- one file, or another of the same list
 pub unwritten_file : (file : List ℕ) (fault : Type 0) (w : Unwritten) → (w ≡ why.Memory) ⊎ (w ≡ why.File file) → fault → IsUnwritten (file ∷ []) fault w
-unwritten_file file fault w (inl e) f = subst (IsUnwritten (file ∷ []) fault) (sym e) tt
+unwritten_file file fault w (inl e) f = subst (IsUnwritten (file ∷ []) fault) (sym e) f
 unwritten_file file fault w (inr e) f = subst (IsUnwritten (file ∷ []) fault) (sym e) (ap (λ b. b || false) (here file), f)
 
 pub unwritten_wider : (names more : List (List ℕ)) (fault wider : Type 0) (w : Unwritten) → ((name : List ℕ) → list_any (λ known. bytes_eq known name) names ≡ true → list_any (λ known. bytes_eq known name) more ≡ true) → (fault → wider) → IsUnwritten names fault w → IsUnwritten more wider w
-unwritten_wider names more fault wider why.Memory within rises u = tt
+unwritten_wider names more fault wider why.Memory within rises u = rises u
 unwritten_wider names more fault wider (why.File file) within rises u = (within file u.0, rises u.1)
 
 -- a name that stands at a place of the list

@@ -1,12 +1,12 @@
 -- What was written, from what each write did.
-use Rattle.std.proofs.Common.{◌≡◌, ◌≢◌, ◌⊎◌, ◌<◌, ◌+◌, suc, zero, ℕ, Bool, true, false, cond, List, [], ◌∷◌, ◌++◌, length, get_or, take, drop, ◌≤◌, Option, Some, None, Result, Ok, Err, refl, sym, ◌∙◌, ap, subst, inl, inr, append-nil, append_assoc, arith}
-use Rattle.std.specs.Prelude.{◌||◌, AllPairs, map, bytes_eq, unwrap_or, IsSome, OnErr}
+use Rattle.std.proofs.Common.{◌≡◌, ◌≢◌, ◌⊎◌, ◌<◌, ◌+◌, suc, zero, ℕ, Bool, true, false, cond, List, [], ◌∷◌, ◌++◌, length, get_or, take, drop, Option, Some, None, Result, Ok, Err, refl, sym, ◌∙◌, ap, subst, inl, inr, append_assoc, arith}
+use Rattle.std.specs.Prelude.{◌||◌, AllPairs, bytes_eq, OnErr}
 use Rattle.std.specs.List.{list_any}
 use Rattle.std.specs.Option.{option_map, option_or}
 use Rattle.std.proofs.Math.Seq.{take-length}
 use Rattle.std.proofs.lemmas.List.{drop_more, get_or-take, length-take-le, take-append-drop, take_more}
 use Rattle.std.proofs.lemmas.Slice.Eq.{bytes_eq-Decides}
-use Rattle.snap_io.specs.Shelves.{Files, IfTold, SameBut, Changes, Creates, Appends, GrowsBy}
+use Rattle.snap_io.specs.Shelves.{Files, IfTold, Changes}
 use Rattle.snap_write.specs.Outputs.{HasBegun, HasFront, HasWritten, Outputs, blank, names_of, text_for}
 use Rattle.snap_write.proofs.Causes.{here}
 

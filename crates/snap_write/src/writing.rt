@@ -142,7 +142,7 @@ fn write_output<S: Shelf>(alloc: Global, shelf: &mut S, output: &Output) -> Resu
 }
 
 // The stop at a file that could not be written.
-fn unwritten(alloc: Global, file: &Name) -> Unwritten
+pub(crate) fn unwritten(alloc: Global, file: &Name) -> Unwritten
     ensures { (result ≡ Unwritten.Memory) ⊎ (result ≡ Unwritten.File file.now) }
 {
     match Name::new(alloc, file.text()) {

@@ -1,8 +1,5 @@
-use Rattle.std.proofs.Common.{◌∙◌, arith, refl, sym, subst, ap}
-use Rattle.std.proofs.lemmas.List.{take_all}
-use Rattle.std.specs.Prelude.{take}
-use Rattle.snap_io.specs.Shelves.{Changes}
-use Rattle.snap_write.specs.Outputs.{HasWritten, names_of}
+use Rattle.std.proofs.Common.{◌∙◌, arith, refl, sym, ap}
+use Rattle.snap_write.specs.Outputs.{names_of}
 use Rattle.snap_write.proofs.Causes.{if_err, unwritten_at}
 use Rattle.snap_write.proofs.Written.{begun_here, names-at, names-length, nothing_written, on_err, one_more}
 use Rattle.snap_write.proofs.writing.write_all.Goals as goal
