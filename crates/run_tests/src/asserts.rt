@@ -1,4 +1,4 @@
-use snap_io::{MemShelf, MemSink, Turn};
+use snap_io::{MemShelf, MemSink, Shelf, Turn};
 use snap_model::OutOfMemory;
 use snap_run::run;
 use std::alloc::{AllocError, Global};
@@ -46,11 +46,11 @@ pub(crate) fn shelf_of(
 }
 
 /// The status alone: what `run` ensures isn't read in each test.
-pub(crate) fn ended<R: Threads + Wait + Sync + Abort, T: Turn + Sync>(
+pub(crate) fn ended<R: Threads + Wait + Sync + Abort, S: Shelf, T: Turn + Sync>(
     rt: &R,
     alloc: Global,
     words: &str,
-    shelf: &mut MemShelf,
+    shelf: &mut S,
     sink: &mut MemSink,
     turn: &T,
 ) -> u8 {

@@ -161,13 +161,13 @@ fn each_call_that_fails_is_told(rt: HostRuntime) {
         a;~load l\nclone c\nexport c 0 9 f\n~~key,value\n3,30\n~r1~4 1,0 read fault: a\n~none~none~none|\
         a;~load l\nclone c\nexport c 0 9 f\n~~key,value\n3,30\n~s2~4 1,0 read fault: l\n~none~none~none|\
         a;~load l\nclone c\nexport c 0 9 f\n~~key,value\n3,30\n~c1~5 0,1 write fault: a.out\n~none~none~none|\
-        a;~load l\nclone c\nexport c 0 9 f\n~~key,value\n3,30\n~a1~5 0,1 write fault: a.out\n~~none~none|\
-        a;~load l\nclone c\nexport c 0 9 f\n~~key,value\n3,30\n~a2~5 0,1 write fault: f\n~loaded 1\ncloned c\nexported 1\n~none~|\
+        a;~load l\nclone c\nexport c 0 9 f\n~~key,value\n3,30\n~a1~5 0,1 write fault: f\n~~none~|\
+        a;~load l\nclone c\nexport c 0 9 f\n~~key,value\n3,30\n~a2~5 0,1 write fault: a.out\n~~none~key,value\n3,30\n|\
         a;b;--final;f;~put 1 10\nput 3 30\nremove 1\n~put 2 20\nput 4 40\n~~r2~4 1,0 read fault: b\n~none~none~none|\
         a;b;~get 1\n~get 1\n~~c2~5 0,1 write fault: b.out\n~~none~none|\
-        a;b;--final;f;~get 1\n~get 1\n~~a2~5 0,1 write fault: b.out\n~none\n~~none|\
+        a;--final;f;~get 1\n~~~a2~5 0,1 write fault: f\n~none\n~none~|\
         a;~put 5 50\nput 5 51\nget 5\nremove 5\nremove 5\n~~~a1~5 0,1 write fault: a.out\n~~none~none|\
-        a;~load l\nclone c\nexport c 0 9 f\n~~key,value\n3,30\n~c2~5 0,1 write fault: f\n~loaded 1\ncloned c\nexported 1\n~none~none|\
+        a;~load l\nclone c\nexport c 0 9 f\n~~key,value\n3,30\n~c2~5 0,1 write fault: f\n~~none~none|\
         --final=f;--generate=4;~~~~c1~5 0,1 write fault: f\n~none~none~none|\
         --final=f;--generate=4;~~~~a1~5 0,1 write fault: f\n~none~none~",
     );

@@ -1,8 +1,11 @@
 //! Two scripts and a final file, where one of the calls to the outside fails, or two. A row is a call, the status and how
 //! often a read and a write have failed, what is printed, and the files `a.out`, `b.out` and `f`; the rows stand in the
-//! order in which their calls are made. Where two calls fail, the earlier one is told, and the later one isn't made.
+//! order in which their calls are made. Where two calls fail, the earlier one is told, and the later one isn't made. Of the
+//! two workers that write at one time, the second ends once the first one's replies have come to their file.
+use crate::asking::{FlagShelf, FlagTurn, LOOKS};
 use crate::asserts::{holds, is, is_text, words_in};
-use snap_io::{FreeTurn, MemShelf, MemSink, ShelfOp};
+use crossbeam_utils::atomic::AtomicCell;
+use snap_io::{MemShelf, MemSink, ShelfOp};
 use snap_model::OutOfMemory;
 use snap_run::{Outcome, run};
 use std::alloc::{AllocError, Global};
@@ -32,32 +35,32 @@ fn part(row: &[u8], place: usize) -> &[u8] {
 
 // The shelf and the sink of a run.
 #[derive(Drop)]
-struct Outside {
-    shelf: MemShelf,
+struct Outside<'f> {
+    shelf: FlagShelf<'f>,
     sink: MemSink,
 }
 
-fn outside_of(alloc: Global) -> Result<Outside, OutOfMemory> {
+fn outside_of(alloc: Global, asked: &AtomicCell<bool>) -> Result<Outside<'_>, OutOfMemory> {
     let mut shelf = MemShelf::new(alloc);
     shelf.add("a", b"put 1 10\nput 3 30\nremove 1\n")?;
     shelf.add("b", b"put 2 20\nput 4 40\n")?;
     Ok(Outside {
-        shelf,
+        shelf: FlagShelf { held: shelf, asked },
         sink: MemSink::new(alloc),
     })
 }
 
 // Has a call fail: `s1` the first size, `p1` the first text that is put to the sink.
-fn plan(outside: &mut Outside, call: &[u8]) -> Result<(), OutOfMemory> {
+fn plan(outside: &mut Outside<'_>, call: &[u8]) -> Result<(), OutOfMemory> {
     let [kind, number] = call else {
         return Ok(());
     };
     let number = u64::from(number.saturating_sub(b'0'));
     match *kind {
-        b's' => outside.shelf.fail(ShelfOp::Size, number),
-        b'r' => outside.shelf.fail(ShelfOp::Read, number),
-        b'c' => outside.shelf.fail(ShelfOp::Create, number),
-        b'a' => outside.shelf.fail(ShelfOp::Append, number),
+        b's' => outside.shelf.held.fail(ShelfOp::Size, number),
+        b'r' => outside.shelf.held.fail(ShelfOp::Read, number),
+        b'c' => outside.shelf.held.fail(ShelfOp::Create, number),
+        b'a' => outside.shelf.held.fail(ShelfOp::Append, number),
         _ => outside.sink.fail(number),
     }
 }
@@ -71,18 +74,28 @@ fn has_fronts(outcome: &Outcome) -> bool {
     }
 }
 
+// How often the second worker looks for the first one's replies: not at all where no file is added to, or in any order.
+fn looks_of(call: &[u8]) -> u64 {
+    match call {
+        b"a1" | b"a2" => LOOKS,
+        _ => 0,
+    }
+}
+
 // The status, and how often a read and a write have failed.
 fn end_of<R: Threads + Wait + Sync + Abort>(
     rt: &R,
     alloc: Global,
-    outside: &mut Outside,
+    outside: &mut Outside<'_>,
+    looks: u64,
 ) -> Result<String, AllocError> {
     let words = words_in(alloc, "--rows=99;a;b;--final;f;")?;
     let Outside { shelf, sink } = outside;
-    let outcome = run(rt, alloc, words.as_slice(), shelf, sink, &FreeTurn);
+    let turn = FlagTurn::new(shelf.asked, 1, 2, looks);
+    let outcome = run(rt, alloc, words.as_slice(), shelf, sink, &turn);
     holds(rt, has_fronts(&outcome));
     let status = outcome.status;
-    let (reading, writing) = shelf.faults();
+    let (reading, writing) = shelf.held.faults();
     format!(in alloc; "{status} {reading},{writing}")
 }
 
@@ -100,16 +113,17 @@ fn printed_with<'r>(row: &'r [u8], later: &[u8]) -> &'r [u8] {
 
 // Has the call of a row fail, and a later one.
 fn check<R: Threads + Wait + Sync + Abort>(rt: &R, alloc: Global, row: &[u8], later: &[u8]) {
-    let mut outside = outside_of(alloc).expect(rt, "no memory");
+    let asked = AtomicCell::new(false);
+    let mut outside = outside_of(alloc, &asked).expect(rt, "no memory");
     plan(&mut outside, part(row, 0)).expect(rt, "no memory");
     plan(&mut outside, later).expect(rt, "no memory");
-    let end = end_of(rt, alloc, &mut outside).expect(rt, "no memory");
+    let end = end_of(rt, alloc, &mut outside, looks_of(part(row, 0))).expect(rt, "no memory");
     is_text(rt, end.as_bytes(), part(row, 1));
     let printed = printed_with(row, later);
     is_text(rt, outside.sink.bytes(), printed);
-    has(rt, &outside.shelf, "a.out", part(row, 3));
-    has(rt, &outside.shelf, "b.out", part(row, 4));
-    has(rt, &outside.shelf, "f", part(row, 5));
+    has(rt, &outside.shelf.held, "a.out", part(row, 3));
+    has(rt, &outside.shelf.held, "b.out", part(row, 4));
+    has(rt, &outside.shelf.held, "f", part(row, 5));
 }
 
 #[test]

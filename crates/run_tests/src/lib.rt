@@ -2,6 +2,8 @@
 #![tactic(auto)]
 
 #[cfg(test)]
+mod asking;
+#[cfg(test)]
 mod asserts;
 #[cfg(test)]
 mod cases;
@@ -13,5 +15,7 @@ mod limits;
 mod long;
 #[cfg(test)]
 mod meeting;
+#[cfg(test)]
+mod taking;
 #[cfg(test)]
 mod turns;

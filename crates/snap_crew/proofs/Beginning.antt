@@ -1,15 +1,14 @@
 -- New sessions, and lists made from the end.
-use Rattle.std.proofs.Common.{zero, suc, ◌≡◌, ◌≤◌, ◌<◌, ◌+◌, ◌-◌, ◌^◌, ℕ, List, [], ◌∷◌, ◌++◌, length, get_or, inl, inr, refl, ap, sym, ◌∙◌, subst, arith, reverse, slice_get, slice_index_or}
+use Rattle.std.proofs.Common.{zero, suc, ◌≡◌, ◌<◌, ◌+◌, ◌-◌, ◌^◌, ℕ, List, [], ◌∷◌, ◌++◌, length, get_or, inl, inr, refl, ap, sym, ◌∙◌, subst, arith, reverse, slice_get, slice_index_or}
 use Rattle.snap_prelude.proofs.Common.{get_or-map, get_or-reverse, get_or_append_left}
 use Rattle.snap_prelude.proofs.Common.{length-map, length_push, slice_get-get_or}
 use Rattle.std.proofs.lemmas.List.{get_or_push}
 use Rattle.snap_prelude.specs.{Command, Known, Laid}
 use Rattle.snap_text.specs.LoadFiles.{Loads}
-use Rattle.snap_service.specs.Prelude.{AreNewKits, AreSeated, IsFresh, IsSeated, IsUncut}
-use Rattle.snap_service.specs.Prelude.{most_uses, new_kit, new_pass, nobody, nowhere}
-use Rattle.snap_service.specs.Prelude.{opened, pass_at, State, table_at, Tables}
+use Rattle.snap_service.specs.Prelude.{AreNewKits, AreSeated, IsFresh, IsSeated, IsUncut, most_uses, new_kit, new_pass}
+use Rattle.snap_service.specs.Prelude.{new_session, nobody, nowhere, pass_at, SessionState, table_at, Tables}
 use Rattle.snap_service.proofs.Ending.{get_more}
-use Rattle.snap_crew.specs.Prelude.{CanWork, IsScript, Mirrors}
+use Rattle.snap_crew.specs.Prelude.{CanWork, IsRunnableOn, Mirrors}
 
 pub mirror_next : {X : Type 0} (n : ℕ) (xs more : List X) (P : ℕ → X → Type 0) (left place : ℕ) (x : X) → place + 1 ≡ left → length xs + left ≡ n → more ≡ xs ++ x ∷ [] → P place x → Mirrors n xs P → Mirrors n more P
 mirror_next {X} n xs more P left place x one all is here h j i y sum e = elim (get_more xs x j y (ap (λ (l : List X). slice_get l j) (sym is) ∙ e)) [
@@ -54,11 +53,11 @@ no_uses : (w : ℕ) (laid : List Laid) → most_uses (new_kit laid w) ≡ 0
 no_uses w [] = refl
 no_uses w (x ∷ xs) = omega (arith, no_uses w xs)
 
-pub can_work : (loads : Loads) (tables : Tables) (w : ℕ) (kit : List Known) (s : State) (commands : List Command) → kit ≡ new_kit tables.laid w → s ≡ opened tables kit → IsFresh tables kit s → IsScript tables.names loads commands → CanWork loads w s commands
+pub can_work : (loads : Loads) (tables : Tables) (w : ℕ) (kit : List Known) (s : SessionState) (commands : List Command) → kit ≡ new_kit tables.laid w → s ≡ new_session tables kit → IsFresh tables kit s → IsRunnableOn tables.names loads commands → CanWork loads w s commands
 can_work loads tables w kit s commands new is fresh script = record {
   begins = fresh loads w new;
-  can = script.can s (ap (λ (x : State). x.tables.names) is) (ap (λ (x : State). x.clones) is);
-  few = omega (arith, script.few, ap (λ (x : State). most_uses x.passes) is, ap most_uses new, no_uses w tables.laid);
+  can = script.can s (ap (λ (x : SessionState). x.tables.names) is) (ap (λ (x : SessionState). x.clones) is);
+  few = omega (arith, script.few, ap (λ (x : SessionState). most_uses x.passes) is, ap most_uses new, no_uses w tables.laid);
 }
 
 module _ (tables : Tables) (w : ℕ) (t : ℕ) (l : t < length (new_kit tables.laid w)) where

@@ -1,12 +1,10 @@
 -- Tables that the caller's kit closes, with a clone of its own or without one.
-use Rattle.snap_prelude.proofs.Common.{dec_lt, dite, get_or-set_same}
-use Rattle.snap_prelude.proofs.Common.{slice_get-get_or, slice_get_past}
-use Rattle.std.proofs.Common.{◌≡◌, ◌<◌, ◌+◌, ◌-◌, eq-eqb, ℕ, Bool, List, [], ◌∷◌, length, Option, Some, ap, sym, ◌∙◌, arith, cond, slice_get, slice_index_or}
-use Rattle.snap_prelude.specs.{after, Cloned, Closes, Ended, Known}
+use Rattle.snap_prelude.proofs.Common.{dec_lt, dite, slice_get-get_or, slice_get_past}
+use Rattle.std.proofs.Common.{◌≡◌, ◌<◌, ◌-◌, eq-eqb, ℕ, Bool, List, [], length, Option, Some, ap, sym, ◌∙◌, arith, cond, slice_get, slice_index_or}
+use Rattle.snap_prelude.specs.{after, Closes, Ended, Known}
 use Rattle.snap_text.specs.Tables.{table_text}
-use Rattle.snap_service.specs.Prelude.{AreClosed, AreSeated, AreTables}
-use Rattle.snap_service.specs.Prelude.{cuts_among, cuts_of, front_of, fronts_of}
-use Rattle.snap_service.specs.Prelude.{IsFinal, IsUncut, nobody, pass_at, Tables}
+use Rattle.snap_service.specs.Prelude.{AreClosed, AreSeated, AreTables, cuts_among, cuts_of, front_of, fronts_of}
+use Rattle.snap_service.specs.Prelude.{IsUncut, nobody, pass_at, Tables}
 
 -- the front of a table is what its pass has seen and cut
 module _ (kit : List Known) (fronts : List Ended) (closed : AreClosed kit fronts) (t : ℕ) (l : t < length kit) where
@@ -36,8 +34,3 @@ no_cut tables kit fronts closed u t = dite (dec_lt t (length kit))
 -- the text of the first table by what its pass has seen, which is the whole history
 pub text_is : (tables : Tables) (kit : List Known) (fronts : List Ended) (text : List ℕ) → AreTables tables → AreSeated tables kit → AreClosed kit fronts → text ≡ table_text (after (pass_at kit 0).view.seen) → text ≡ table_text (after (fronts_of fronts 0).history)
 text_is tables kit fronts text ok seated closed is = is ∙ ap (λ h. table_text (after h)) (sym (history_is kit fronts closed 0 (omega (arith, ok.a_table, seated.a_pass_each))))
-
--- the caller's clone is of all that its pass has seen then
-pub base_is : (tables : Tables) (old : List Known) (clone : Cloned) (new : List Known) → AreTables tables → AreSeated tables old → IsFinal old clone new → (pass_at new 0).view.seen ≡ clone.base
-base_is tables old clone new ok seated h = let c = h.2 in
-    ap (λ (l : List Known). (pass_at l 0).view.seen) h.1 ∙ ap (λ (k : Known). k.view.seen) (get_or-set_same old 0 h.0 nobody (omega (arith, ok.a_table, seated.a_pass_each))) ∙ c.cut.seen

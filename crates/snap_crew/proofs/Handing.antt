@@ -1,37 +1,30 @@
 -- What jobs hand over, by number, and what the closed tables tell of it.
-use Rattle.std.proofs.Common.{◌≡◌, ◌<◌, ◌+◌, ◌-◌, ℕ, List, length, ap, sym, ◌∙◌, subst, arith, IfOk, Result, Ok, Err, slice_index_or}
+use Rattle.std.proofs.Common.{◌≡◌, ◌<◌, ◌+◌, ◌-◌, ℕ, List, length, ap, sym, ◌∙◌, subst, arith, slice_index_or}
 use Rattle.snap_prelude.proofs.Common.{slice_get-get_or}
 use Rattle.snap_fits.specs.Fits.{Front}
 use Rattle.snap_prelude.specs.{after, Command, Ended, IsLastState, IsLegal, Known}
-use Rattle.snap_service.specs.Prelude.{AreTables, new_kit, opened, setting, State, Tables}
+use Rattle.snap_service.specs.Prelude.{AreTables, new_kit, new_session, setting, SessionState, Tables}
 use Rattle.snap_text.specs.LoadFiles.{Loads}
-use Rattle.snap_crew.specs.Prelude.{Answers, AreEnded, CanWork, commands_of, Done, HasFit}
-use Rattle.snap_crew.specs.Prelude.{HasWorked, IsHanded, IsJob, IsTrue, Job, setting_of}
+use Rattle.snap_crew.specs.Prelude.{Answered, AreEnded, CanWork, script_commands, HasFit}
+use Rattle.snap_crew.specs.Prelude.{HasWorked, IsJob, IsTrue, Job, setting_of}
 
 -- the session of worker i as it begins
-abbrev begin : Tables → ℕ → State
-begin tables i = opened tables (new_kit tables.laid i)
+abbrev pub begin : Tables → ℕ → SessionState
+begin tables i = new_session tables (new_kit tables.laid i)
 
 -- a job is by its own fields what it is by its number and script
 module _ (loads : Loads) (tables : Tables) (commands : List Command) (i : ℕ) (job : Job) (is : IsJob loads tables commands i job) where
-  pub job_can : CanWork loads job.who job.session (commands_of job.script.now)
+  pub job_can : CanWork loads job.who job.session (script_commands job.script.now)
   job_can = subst (λ (cs : List Command). CanWork loads job.who job.session cs) (sym is.commands_are) (subst (λ (w : ℕ). CanWork loads w job.session commands) (sym is.who_is) is.can)
 
-  pub job_worked : (receipt : List Known) (answers : Answers) → HasWorked loads job.who (commands_of job.script.now) job.session receipt answers → HasWorked loads i commands (begin tables i) receipt answers
+  pub job_worked : (receipt : List Known) (answers : Answered) → HasWorked loads job.who (script_commands job.script.now) job.session receipt answers → HasWorked loads i commands (begin tables i) receipt answers
   job_worked receipt answers h =
       subst (λ (w : ℕ). HasWorked loads w commands (begin tables i) receipt answers) is.who_is
       (subst (λ (cs : List Command). HasWorked loads job.who cs (begin tables i) receipt answers) is.commands_are
-      (subst (λ (s : State). HasWorked loads job.who (commands_of job.script.now) s receipt answers) is.on h))
-
--- what a worker that had memory handed over
-pub handed : {E : Type 0} (loads : Loads) (tables : Tables) (commands : List Command) (i : ℕ) (job : Job) (is : IsJob loads tables commands i job) (r : Result Done E) (receipt : List Known) (answers : Answers)
-    → IfOk r (λ (d : Done). HasWorked loads job.who (commands_of job.script.now) job.session d.receipt d.answers) → IsHanded r (λ d. receipt ≡ d.receipt) → IsHanded r (λ d. answers ≡ d.answers) → HasWorked loads i commands (begin tables i) receipt answers
-handed loads tables commands i job is (Ok d) receipt answers h e f =
-    subst (λ (a : Answers). HasWorked loads i commands (begin tables i) receipt a) (sym f) (subst (λ (k : List Known). HasWorked loads i commands (begin tables i) k d.answers) (sym e) (job_worked loads tables commands i job is d.receipt d.answers h))
-handed loads tables commands i job is (Err x) receipt answers h e f = absurd e
+      (subst (λ (s : SessionState). HasWorked loads job.who (script_commands job.script.now) s receipt answers) is.on h))
 
 -- an outcome speaks of names, rows and workers alone
-pub named_fit : (tables : Tables) (names : List (List ℕ)) (rows workers : ℕ) (loads : Loads) (fronts : ℕ → Front) (w : ℕ) (cs : List Command) (answers : Answers) → tables.names ≡ names → tables.rows ≡ rows → tables.kits ≡ workers + 1
+pub named_fit : (tables : Tables) (names : List (List ℕ)) (rows workers : ℕ) (loads : Loads) (fronts : ℕ → Front) (w : ℕ) (cs : List Command) (answers : Answered) → tables.names ≡ names → tables.rows ≡ rows → tables.kits ≡ workers + 1
     → HasFit (setting tables loads) fronts w cs answers → HasFit (setting_of names rows loads workers) fronts w cs answers
 named_fit tables names rows workers loads fronts w cs answers n r k h =
     subst (λ (x : ℕ). HasFit (setting_of names rows loads x) fronts w cs answers) (omega (arith, k))

@@ -2,6 +2,10 @@ pub mod Replying
 pub mod Working
 pub mod Speaking
 pub mod Beginning
+pub mod Sitting
+pub mod Left
 pub mod Handing
+pub mod Carrying
+pub mod Seating
 pub mod Closing
 pub mod Ended

@@ -1,15 +1,11 @@
 -- Each command is served with one of its replies, and exports the text of what is exported.
-use Rattle.std.proofs.Common.{◌≡◌, ◌≤◌, ◌+◌, ◌++◌, ℕ, List, [], ◌∷◌, Option, Some, None, length, inl, inr, refl, ap, sym, ◌∙◌, subst, arith, append_assoc, append-nil, ◌⊎◌, IsSome, map}
+use Rattle.std.proofs.Common.{◌≡◌, ◌≤◌, ◌+◌, ◌++◌, ℕ, List, [], ◌∷◌, Option, Some, None, length, inl, inr, refl, ap, sym, ◌∙◌, subst, arith, append_assoc, append-nil, IsSome, map}
 use Rattle.snap_fits.specs.Fits.{Told, put_reply, remove_reply, value_reply, pair_reply}
 use Rattle.snap_fits.specs.Sessions.{exported, exported_from}
 use Rattle.snap_prelude.specs.{Cloned, Command, range, Reply}
-use Rattle.snap_text.specs.Replies.{IsReplyOf, reply_text}
-use Rattle.snap_text.specs.Tables.{table_text}
-use Rattle.snap_service.specs.Prelude.{CanRun, clone_at, course, kept, map_in}
-use Rattle.snap_service.specs.Prelude.{Measured, Serves, State, text_of}
-use Rattle.snap_text.specs.LoadFiles.{Loads}
-use Rattle.snap_crew.specs.Prelude.{exported_file, full_of, fulls_of, fulls_with}
-use Rattle.snap_crew.specs.Prelude.{lines_of, lines_with, table_files}
+use Rattle.snap_text.specs.{Replies.IsReplyOf, Replies.reply_text, Tables.table_text, LoadFiles.Loads}
+use Rattle.snap_service.specs.Prelude.{CanRun, clone_at, course, kept, map_in, Measured, Serves, SessionState, text_of}
+use Rattle.snap_crew.specs.Prelude.{exported_file, full_of, fulls_of, fulls_with, lines_of, lines_with, table_files}
 
 put_is : (k v : ℕ) (r : Reply) (was : Option ℕ) → r ≡ put_reply was → IsReplyOf (Command.Put k v) r
 put_is k v r None e = subst (IsReplyOf (Command.Put k v)) (sym e) tt
@@ -27,12 +23,12 @@ of_pair : (c : Command) (r : Reply) (x : Option (ℕ × ℕ)) → IsReplyOf c Re
 of_pair c r None absent some e = subst (IsReplyOf c) (sym e) absent
 of_pair c r (Some p) absent some e = subst (IsReplyOf c) (sym e) (some p.0 p.1)
 
-measured_reply : (a b : State) (n : ℕ) (c : Option (ℕ × Cloned)) (r : Reply) → Measured c a r b → IsReplyOf (Command.Depth n) r
+measured_reply : (a b : SessionState) (n : ℕ) (c : Option (ℕ × Cloned)) (r : Reply) → Measured c a r b → IsReplyOf (Command.Depth n) r
 measured_reply a b n None r h = absurd h
 measured_reply a b n (Some live) r h = subst (IsReplyOf (Command.Depth n)) (sym h.3.reply) tt
 
 -- each command is served with one of its replies
-pub serves_reply : (loads : Loads) (a b : State) (c : Command) (r : Reply) → Serves loads a c r b → IsReplyOf c r
+pub serves_reply : (loads : Loads) (a b : SessionState) (c : Command) (r : Reply) → Serves loads a c r b → IsReplyOf c r
 serves_reply loads a b (Command.Table name) r h = subst (IsReplyOf (Command.Table name)) (sym h.0) tt
 serves_reply loads a b (Command.Put k v) r h = elim h.2 [
   | inl z ↦ put_is k v r z.0 z.1
@@ -65,7 +61,7 @@ of_slot None lo hi file some = absurd cc
 of_slot (Some live) lo hi file some = refl
 
 -- the text that a command exports is that of what it exports
-pub file_exported : (s : State) (loads : Loads) (w : ℕ) (c : Command) → CanRun s loads c → exported_file c (text_of s c) ≡ table_files (exported (course w s) c)
+pub file_exported : (s : SessionState) (loads : Loads) (w : ℕ) (c : Command) → CanRun s loads c → exported_file c (text_of s c) ≡ table_files (exported (course w s) c)
 file_exported s loads w (Command.Table name) can = refl
 file_exported s loads w (Command.Put key value) can = refl
 file_exported s loads w (Command.Remove key) can = refl

@@ -2,17 +2,15 @@
 use Rattle.snap_prelude.proofs.Common.{dite, one_same, ℕ_discrete}
 use Rattle.std.proofs.Common.{◌≡◌, ◌<◌, ◌+◌, ℕ, List, [], ◌∷◌, ◌++◌, length, ap, sym, subst, ◌∙◌, arith, map, slice_index_or}
 use Rattle.snap_fits.specs.Fits.{Front, Setting, Told, WorkerFits}
-use Rattle.snap_prelude.specs.{admitted_of, Command, Ended, Known, numbers}
-use Rattle.snap_prelude.specs.{numbers_of, own_number, Pairs, Reply, times}
+use Rattle.snap_prelude.specs.{admitted_of, Command, Ended, Known, numbers, numbers_of, own_number, Pairs, Reply, times}
 use Rattle.snap_service.specs.Prelude.{Admits, AdmitsAll, AreSeated, AreTables, FitsAll}
 use Rattle.snap_service.specs.Prelude.{fronts_of, IsUncut, pass_at, setting, Tables}
 use Rattle.snap_service.proofs.Covered.{listed_number}
-use Rattle.snap_crew.specs.Prelude.{Answers, AreOf, FitsIf, fulls_with, HasFit}
-use Rattle.snap_crew.specs.Prelude.{IsNumbered, lines_with, table_files}
+use Rattle.snap_crew.specs.Prelude.{Answered, AreOf, AreOfWorker, FitsIf, fulls_with, HasFit, lines_with, table_files}
 use Rattle.snap_crew.proofs.Replying.{fulls_told, lines_told}
 
 pub all_speak : (tables : Tables) (own : List Known) (receipts : List (List Known)) → AreTables tables → AreSeated tables own → IsUncut tables own → tables.kits ≡ length receipts + 1
-    → ((i : ℕ) (d : List Known) → i < length receipts → AreSeated tables (slice_index_or receipts i d)) → ((i : ℕ) (d : List Known) → i < length receipts → IsNumbered i (slice_index_or receipts i d))
+    → ((i : ℕ) (d : List Known) → i < length receipts → AreSeated tables (slice_index_or receipts i d)) → ((i : ℕ) (d : List Known) → i < length receipts → AreOfWorker i (slice_index_or receipts i d))
     → ((i : ℕ) (d : List Known) → i < length receipts → Admits own (slice_index_or receipts i d)) → AdmitsAll own
 all_speak tables own receipts ok seated uncut kits theirs numbered admits t l i low =
     let v = (pass_at own t).view in
@@ -33,7 +31,7 @@ all_speak tables own receipts ok seated uncut kits theirs numbered admits t l i 
     omega (arith, ap (times i) all, subst (λ (k : ℕ). 0 < times k (numbers_of v.admitted)) e some))
 
 -- commands that fit, with the answers to them
-pub fit_told : (s : Setting) (fronts : ℕ → Front) (w : ℕ) (cs : List Command) (rs : List Reply) (es : List (List ℕ × Pairs)) (answers : Answers) → WorkerFits s fronts w cs rs es → AreOf cs rs es answers → HasFit s fronts w cs answers
+pub fit_told : (s : Setting) (fronts : ℕ → Front) (w : ℕ) (cs : List Command) (rs : List Reply) (es : List (List ℕ × Pairs)) (answers : Answered) → WorkerFits s fronts w cs rs es → AreOf cs rs es answers → HasFit s fronts w cs answers
 fit_told s fronts w cs rs es answers fit a = let trace = fit.trace in record {
   told = fit.told;
   ran = trace.of_commands;

@@ -4,27 +4,23 @@ use Rattle.snap_prelude.proofs.Common.{drop_more, get_or-map, length-map, length
 use Rattle.snap_prelude.proofs.Common.{length_push, map-append, take_all, take_more}
 use Rattle.snap_fits.specs.Sessions.{exported}
 use Rattle.snap_prelude.specs.{Command, Known, Pairs, Reply}
-use Rattle.snap_text.specs.Replies.{reply_text}
-use Rattle.snap_text.specs.Tables.{table_text}
-use Rattle.snap_text.specs.declared.script.Line.{Line}
+use Rattle.snap_text.specs.{Replies.reply_text, Tables.table_text, declared.script.Line.Line, LoadFiles.Loads}
 use Rattle.snap_service.specs.Prelude.{CanRun, CanRunAll, course, HasServed}
-use Rattle.snap_service.specs.Prelude.{most_uses, Serves, ServesOn, State, text_of}
-use Rattle.snap_text.specs.LoadFiles.{Loads}
+use Rattle.snap_service.specs.Prelude.{most_uses, Serves, ServesOn, SessionState, text_of}
 use Rattle.snap_service.proofs.Admitting.{number_is}
-use Rattle.snap_crew.specs.Prelude.{Answers, AreOf, CanWork, commands_of}
-use Rattle.snap_crew.specs.Prelude.{exported_file, full_of, HasRun, HasWorked}
-use Rattle.snap_crew.specs.Prelude.{IsNumbered, lines_with, ServesAll, table_files}
+use Rattle.snap_crew.specs.Prelude.{Answered, AreOf, AreOfWorker, CanWork, exported_file, full_of, HasRun, HasWorked}
+use Rattle.snap_crew.specs.Prelude.{lines_with, script_commands, ServesAll, table_files}
 use Rattle.snap_crew.proofs.Replying.{few_fulls, file_exported, fulls_more, lines_more}
 
 -- one more was run behind those that were
-serves_on : (loads : Loads) (cs : List Command) (rs : List Reply) (a b next : State) (c : Command) (r : Reply) → ServesAll loads a cs rs b → Serves loads b c r next → ServesAll loads a (cs ++ c ∷ []) (rs ++ r ∷ []) next
-serves_on loads [] [] a b next c r same serves = (next, subst (λ (s : State). Serves loads s c r next) same serves, refl)
+serves_on : (loads : Loads) (cs : List Command) (rs : List Reply) (a b next : SessionState) (c : Command) (r : Reply) → ServesAll loads a cs rs b → Serves loads b c r next → ServesAll loads a (cs ++ c ∷ []) (rs ++ r ∷ []) next
+serves_on loads [] [] a b next c r same serves = (next, subst (λ (s : SessionState). Serves loads s c r next) same serves, refl)
 serves_on loads [] (y ∷ rs) a b next c r h serves = absurd h
 serves_on loads (x ∷ cs) [] a b next c r h serves = absurd h
 serves_on loads (x ∷ cs) (y ∷ rs) a b next c r h serves = (h.0, h.1, serves_on loads cs rs h.0 b next c r h.2 serves)
 
 -- the commands so far were run, and the others can be
-pub record IsAt (loads : Loads) (w : ℕ) (commands : List Command) (i : ℕ) (answers : Answers) (first now : State) : Type 0 where
+pub record IsAt (loads : Loads) (w : ℕ) (commands : List Command) (i : ℕ) (answers : Answered) (first now : SessionState) : Type 0 where
   pub replies : List Reply
   pub exports : List (List ℕ × Pairs)
   pub steps : ServesAll loads first (take i commands) replies now
@@ -35,7 +31,7 @@ pub record IsAt (loads : Loads) (w : ℕ) (commands : List Command) (i : ℕ) (a
   pub many : length replies ≡ i
   pub answered : AreOf (take i commands) replies exports answers
 
-pub at_start : (loads : Loads) (w : ℕ) (commands : List Command) (answers : Answers) (s : State) → CanWork loads w s commands → answers.lines.items ≡ [] → answers.exports.items ≡ [] → answers.full ≡ 0 → IsAt loads w commands 0 answers s s
+pub at_start : (loads : Loads) (w : ℕ) (commands : List Command) (answers : Answered) (s : SessionState) → CanWork loads w s commands → answers.lines ≡ [] → answers.exports ≡ [] → answers.full ≡ 0 → IsAt loads w commands 0 answers s s
 at_start loads w commands answers s can lines files full = record {
   replies = [];
   exports = [];
@@ -48,13 +44,13 @@ at_start loads w commands answers s can lines files full = record {
   answered = record { lines = lines; files = files; full = full };
 }
 
-pub command_at : (script : List Line) (i : ℕ) (line : Line) → i < length script → line ≡ get_or script i line → line.command ≡ get_or (commands_of script) i line.command
+pub command_at : (script : List Line) (i : ℕ) (line : Line) → i < length script → line ≡ get_or script i line → line.command ≡ get_or (script_commands script) i line.command
 command_at script i line l is = ap (λ (x : Line). x.command) is ∙ sym (get_or-map (λ (x : Line). x.command) script i line line.command l)
 
-pub command_within : (script : List Line) (i : ℕ) → i < length script → i < length (commands_of script)
+pub command_within : (script : List Line) (i : ℕ) → i < length script → i < length (script_commands script)
 command_within script i l = omega (arith, l, length-map script (λ (x : Line). x.command))
 
-module _ (loads : Loads) (w : ℕ) (commands : List Command) (i : ℕ) (answers : Answers) (first now : State) (c : Command) (l : i < length commands) (is : c ≡ get_or commands i c) (h : IsAt loads w commands i answers first now) where
+module _ (loads : Loads) (w : ℕ) (commands : List Command) (i : ℕ) (answers : Answered) (first now : SessionState) (c : Command) (l : i < length commands) (is : c ≡ get_or commands i c) (h : IsAt loads w commands i answers first now) where
   rest : drop i commands ≡ c ∷ drop (i + 1) commands
   rest = drop_more commands i c l ∙ ap (λ (x : Command). x ∷ drop (i + 1) commands) (sym is)
 
@@ -70,7 +66,7 @@ module _ (loads : Loads) (w : ℕ) (commands : List Command) (i : ℕ) (answers 
   pub few_full : answers.full ≤ i
   few_full = let a = h.answered in omega (arith, a.full, few_fulls h.replies, h.many)
 
-  pub one_more : (r : Reply) (more : Answers) (next : State) (text : List ℕ) → more.lines.items ≡ answers.lines.items ++ reply_text c r → more.exports.items ≡ answers.exports.items ++ exported_file c text → more.full ≡ answers.full + full_of r → text ≡ text_of now c
+  pub one_more : (r : Reply) (more : Answered) (next : SessionState) (text : List ℕ) → more.lines ≡ answers.lines ++ reply_text c r → more.exports ≡ answers.exports ++ exported_file c text → more.full ≡ answers.full + full_of r → text ≡ text_of now c
       → Serves loads now c r next → ServesOn loads now c r next → next.tables ≡ now.tables → most_uses next.passes ≤ most_uses now.passes + 2 ^ 22
       → IsAt loads w commands (i + 1) more first next
   one_more r more next text lines files full wrote serves on tables uses =
@@ -94,7 +90,7 @@ module _ (loads : Loads) (w : ℕ) (commands : List Command) (i : ℕ) (answers 
         };
       }
 
-pub has_run : (loads : Loads) (w : ℕ) (commands : List Command) (i : ℕ) (answers : Answers) (first now : State) → length commands ≤ i → IsAt loads w commands i answers first now → HasRun loads w commands answers first now
+pub has_run : (loads : Loads) (w : ℕ) (commands : List Command) (i : ℕ) (answers : Answered) (first now : SessionState) → length commands ≤ i → IsAt loads w commands i answers first now → HasRun loads w commands answers first now
 has_run loads w commands i answers first now past h =
     let all : take i commands ≡ commands = take_all i commands past in
     record {
@@ -105,5 +101,5 @@ has_run loads w commands i answers first now past h =
       answered = subst (λ (cs : List Command). AreOf cs h.replies h.exports answers) all h.answered;
     }
 
-pub numbered : (loads : Loads) (w : ℕ) (commands : List Command) (first : State) (passes : List Known) (answers : Answers) → HasWorked loads w commands first passes answers → IsNumbered w passes
-numbered loads w commands first passes answers h = let r = h.ran in subst (IsNumbered w) (sym h.left) (number_is loads w h.state commands r.replies r.exports r.served)
+pub numbered : (loads : Loads) (w : ℕ) (commands : List Command) (first : SessionState) (passes : List Known) (answers : Answered) → HasWorked loads w commands first passes answers → AreOfWorker w passes
+numbered loads w commands first passes answers h = let r = h.ran in subst (AreOfWorker w) (sym h.left) (number_is loads w h.state commands r.replies r.exports r.served)

@@ -3,21 +3,9 @@
 use Rattle.std.specs.Prelude.{◌≡◌, ◌+◌, ◌++◌, ℕ, List, [], ◌∷◌, map}
 use Rattle.snap_fits.specs.Fits.{Setting, Front, Told, exports_of, start}
 use Rattle.snap_prelude.specs.{Command, Pairs, Reply}
-use Rattle.snap_text.specs.Replies.{reply_text}
-use Rattle.snap_text.specs.Tables.{table_text}
+use Rattle.snap_text.specs.{Replies.reply_text, Tables.table_text}
 use Rattle.snap_write.specs.Outputs.{Outputs}
-use Rattle.snap_crew.specs.declared.answers.Answers.{Answers}
-
--- one for a reply that tells of a full table
-abbrev pub full_of : Reply → ℕ
-full_of Reply.Full = 1
-full_of (Reply.FullAfter n) = 1
-full_of _ = 0
-
--- an export's file with its text
-abbrev pub exported_file : Command → List ℕ → Outputs
-exported_file (Command.Export slot lo hi file) text = (file, text) ∷ []
-exported_file _ text = []
+use Rattle.snap_desk.specs.Answers.{Answered, full_of}
 
 -- the files of exported pairs
 abbrev pub table_files : List (List ℕ × Pairs) → Outputs
@@ -34,9 +22,9 @@ fulls_with (r ∷ rs) = full_of r + fulls_with rs
 
 -- the answers are of these commands, replies and exports
 pub record AreOf (commands : List Command) (replies : List Reply) (exports : List (List ℕ × Pairs))
-    (answers : Answers) : Type 0 where
-  pub lines : answers.lines.items ≡ lines_with commands replies
-  pub files : answers.exports.items ≡ table_files exports
+    (answers : Answered) : Type 0 where
+  pub lines : answers.lines ≡ lines_with commands replies
+  pub files : answers.exports ≡ table_files exports
   pub full : answers.full ≡ fulls_with replies
 
 -- the same by what a worker's commands were told
@@ -52,7 +40,7 @@ abbrev pub files_of : Setting → (ℕ → Front) → List Told → Outputs
 files_of s fronts told = table_files (exports_of s fronts start told)
 
 pub record AreTold (s : Setting) (fronts : ℕ → Front) (told : List Told)
-    (answers : Answers) : Type 0 where
-  pub lines : answers.lines.items ≡ lines_of told
-  pub files : answers.exports.items ≡ files_of s fronts told
+    (answers : Answered) : Type 0 where
+  pub lines : answers.lines ≡ lines_of told
+  pub files : answers.exports ≡ files_of s fronts told
   pub full : answers.full ≡ fulls_of told

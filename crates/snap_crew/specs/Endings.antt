@@ -1,18 +1,16 @@
 -- What is known at the end of a run: of the closed tables, of each worker, and of the text of the
 -- first table.
-use Rattle.std.specs.Prelude.{◌≡◌, ◌<◌, ◌≤◌, ◌-◌, ℕ, Bool, true, false, List, [], Option, Some, None, Vec, ⊤, length, slice_index_or, unwrap_or}
+use Rattle.std.specs.Prelude.{◌≡◌, ◌<◌, ◌≤◌, ◌-◌, ℕ, Bool, true, false, List, [], Option, Some, None, Result, Vec, ⊤, length, map, slice_index_or, unwrap_or}
 use Rattle.std.specs.Global.{Global}
 use Rattle.snap_fits.specs.Fits.{Front, Setting}
 use Rattle.snap_prelude.specs.{after, Ended, IsLastState, IsLegal, Known}
-use Rattle.snap_text.specs.Tables.{table_text}
-use Rattle.snap_text.specs.declared.script.Line.{Line}
-use Rattle.snap_service.specs.Prelude.{Admits, AreClosed, AreSeated, fronts_of}
-use Rattle.snap_service.specs.Prelude.{OnlyWorkers, place_of, Tables}
-use Rattle.snap_text.specs.LoadFiles.{Loads, pairs_of}
-use Rattle.snap_crew.specs.Works.{FitsIf, HasFit, commands_of}
-use Rattle.snap_crew.specs.declared.answers.Answers.{Answers}
-use Rattle.snap_crew.specs.declared.ending.Ending.{Ending}
-use Rattle.snap_crew.specs.declared.scripts.Finished.{Finished}
+use Rattle.snap_text.specs.{Tables.table_text, declared.script.Line.Line, LoadFiles.Loads, LoadFiles.pairs_of}
+use Rattle.snap_service.specs.Prelude.{Admits, AreClosed, AreSeated, fronts_of, IsFrontOfWorkers, table_place, Tables}
+use Rattle.snap_crew.specs.{Works.FitsIf, Works.HasFit, Works.script_commands, declared.scripts.Task.Task}
+use Rattle.snap_crew.specs.{declared.ending.Ending.Ending, declared.scripts.Finished.Finished}
+use Rattle.snap_desk.specs.{Files.answers_in, Files.IsAfter, Files.names_in, Answers.Answered}
+use Rattle.snap_io.specs.Prelude.{Files, Rose}
+use Rattle.snap_write.specs.declared.unwritten.Unwritten.{Unwritten}
 
 -- a front tells its history truly, and was the table's last state: where it is told as worn, a
 -- row's stamp was at its greatest count there
@@ -38,7 +36,7 @@ IsTextIf _ _ f = ⊥
 -- only workers made entries and clones; the caller made one clone at most, of the whole first
 -- table, where it was wanted
 pub record AreWorkers (workers : ℕ) (wanted : Bool) (fronts : List Ended) : Type 0 where
-  pub only : (t : ℕ) → OnlyWorkers workers t (fronts_of fronts t)
+  pub only : (t : ℕ) → IsFrontOfWorkers workers t (fronts_of fronts t)
   pub uncut : wanted ≡ false → (t : ℕ) → (fronts_of fronts t).cuts workers ≡ []
 
 -- how the tables were closed by the caller's kit, to which all others had been admitted
@@ -65,19 +63,31 @@ abbrev pub setting_of : List (List ℕ) → ℕ → Loads → ℕ → Setting
 setting_of names rows loads workers = record {
   rows = rows;
   workers = workers;
-  table = λ name. unwrap_or (place_of names name) 0;
+  table = λ name. unwrap_or (table_place names name) 0;
   pairs = λ file. pairs_of loads file;
 }
 
--- what these scripts came to on new tables of these names
+-- what these scripts came to on new tables of these names, and this of each worker
 pub record IsFinished (names : List (List ℕ)) (rows : ℕ) (loads : Loads)
-    (scripts : List (List Line)) (wanted : Bool) (f : Finished) : Type 0 where
+    (scripts : List (List Line)) (wanted : Bool) (answered : List Answered)
+    (f : Finished) : Type 0 where
   pub a_front_each : length f.fronts ≡ length names
   pub true_fronts : (t : ℕ) (d : Ended) → t < length f.fronts
       → IsTrue rows (slice_index_or f.fronts t d)
   pub workers : AreWorkers (length scripts) wanted f.fronts
-  pub answers_each : length f.answers.items ≡ length scripts
-  pub fits : (w : ℕ) (d : List Line) (a : Answers) → w < length scripts
+  pub answers_each : length answered ≡ length scripts
+  pub fulls : f.fulls.items ≡ map (λ (a : Answered). a.full) answered
+  pub fits : (w : ℕ) (d : List Line) (a : Answered) → w < length scripts
       → HasFit (setting_of names rows loads (length scripts)) (fronts_of f.fronts) w
-      (commands_of (slice_index_or scripts w d)) (slice_index_or f.answers.items w a)
+      (script_commands (slice_index_or scripts w d)) (slice_index_or answered w a)
   pub text : IsTextIf wanted f.last (fronts_of f.fronts 0)
+
+-- a task is finished, and the files tell what its workers' commands came to, unless they could not be
+-- written
+pub record Finishes (task : Task) (made : Result (Unit {0}) Unwritten) (old new : Option Files)
+    (w0 w1 : ℕ) (f : Finished) : Type 0 where
+  pub answered : List Answered
+  pub finished : IsFinished task.tables.now task.rows task.loads.now task.scripts.now task.last
+      answered f
+  pub after : IsAfter made f.written (answers_in (names_in task.replies) answered) old new
+      (Rose w0 w1)

@@ -1,6 +1,9 @@
 pub mod Answers
 pub mod Works
+pub mod Seats
+pub mod Leaving
 pub mod Jobs
 pub mod Mirrors
+pub mod Ran
 pub mod Endings
 pub mod Prelude

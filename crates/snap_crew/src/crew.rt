@@ -1,14 +1,17 @@
-//! Jobs, each by a worker in a thread of its own where one can be made.
-ghost use Rattle.std.specs.Prelude.{◌≡◌, ◌<◌, ℕ, IfOk, vec_len, slice_index_or};
-ghost use Rattle.snap_crew.specs.Works.{CanWork, HasWorked, commands_of};
+//! Workers at their seats, each in a thread of its own where one can be made, and one who takes their pieces meanwhile.
+ghost use Rattle.std.specs.Prelude.{◌≡◌, ◌<◌, ℕ, All, None, length, slice_index_or};
+ghost use Rattle.std.specs.Thread.{IsSync};
+ghost use Rattle.snap_crew.specs.Seats.{CanSit, HasSat};
+ghost use Rattle.snap_desk.specs.Collecting.{Drains, IsReadyToWrite};
 
-use crate::answers::Answers;
+use crate::seats::Seat;
 use crate::worker::work;
-use snap_io::Turn;
-use snap_model::OutOfMemory;
-use snap_service::{KitReceipt, Session};
+use snap_desk::{Bell, Collector};
+use snap_io::{Shelf, Turn};
+use snap_outlet::{MOST_SENDERS, Outlet};
+use snap_service::Session;
 use snap_text::{Line, Loads};
-use std::alloc::{AllocError, Global};
+use std::alloc::Global;
 use std::sync::Wait;
 use std::thread;
 use std::thread::Threads;
@@ -21,36 +24,31 @@ pub struct Job<'t> {
     pub who: u32,
 }
 
-/// What one worker left: the passes of its session, and what its commands came to.
-#[derive(Drop)]
-pub struct Done {
-    pub receipt: KitReceipt,
-    pub answers: Answers,
-}
-
 /// One worker's work.
 pub fn do_job<R: Wait, T: Turn>(
     rt: &R,
     alloc: Global,
     loads: &Loads,
     turn: &T,
-    job: Job<'_>,
-) -> Result<Done, OutOfMemory>
-    requires { CanWork loads.now job.who job.session (commands_of job.script.now) }
-    ensures { IfOk result
-        (λ done. HasWorked loads.now job.entry.who
-        (commands_of job.entry.script.now) job.entry.session done.receipt done.answers) }
+    outlet: &Outlet,
+    seat: &mut Seat<'_>,
+)
+    requires { CanSit loads.now outlet.now seat.old }
+    ensures { HasSat loads.now seat.old seat.new }
 {
-    let Job {
-        mut session,
+    let script = seat.job.script;
+    let who = seat.job.who;
+    seat.came = work(
+        rt,
+        alloc,
+        &mut seat.job.session,
         script,
+        loads,
         who,
-    } = job;
-    let answers = work(rt, alloc, &mut session, script, loads, who, turn)?;
-    Ok(Done {
-        receipt: session.finish(),
-        answers,
-    })
+        turn,
+        outlet,
+        &mut seat.desk,
+    );
 }
 
 /// Each job by a worker of its own, in a thread where one can be made; where none can, the caller does it.
@@ -59,28 +57,60 @@ pub fn do_all<R: Threads + Wait + Sync, T: Turn + Sync>(
     alloc: Global,
     loads: &Loads,
     turn: &T,
-    jobs: Vec<Job<'_>>,
-) -> Result<Vec<Result<Done, OutOfMemory>>, AllocError>
-    requires { (i : ℕ) (e : _) → i < vec_len jobs
-        → CanWork loads.now (slice_index_or jobs.items i e).who
-        (slice_index_or jobs.items i e).session
-        (commands_of (slice_index_or jobs.items i e).script.now) }
-    ensures len { IfOk result (λ all. vec_len all ≡ vec_len jobs.entry) }
-    ensures each { IfOk result
-        (λ all. (i : ℕ) (d : _) (e : _) → i < vec_len jobs.entry
-        → IfOk (slice_index_or all.items i d) (λ done.
-        HasWorked loads.now (slice_index_or jobs.entry.items i e).who
-        (commands_of (slice_index_or jobs.entry.items i e).script.now)
-        (slice_index_or jobs.entry.items i e).session done.receipt done.answers)) }
+    outlet: &Outlet,
+    seats: &mut [Seat<'_>],
+)
+    requires { All (CanSit loads.now outlet.now) seats.old }
+    ensures { (i : ℕ) (d : _) → i < length seats.old
+        → HasSat loads.now (slice_index_or seats.old i d) (slice_index_or seats.new i d) }
 {
-    thread::map_vec(
+    thread::for_each_mut(
         rt,
-        jobs,
-        &|job: Job<'_>| -> Result<Done, OutOfMemory>
-            requires { CanWork loads.now job.who job.session (commands_of job.script.now) }
-            ensures { IfOk result
-                (λ done. HasWorked loads.entry.now job.entry.who
-                (commands_of job.entry.script.now) job.entry.session done.receipt done.answers) }
-        { do_job(rt, alloc, loads, turn, job) },
-    )
+        seats,
+        MOST_SENDERS as usize,
+        &|_, seat: &mut Seat<'_>|
+            requires { CanSit loads.now outlet.now seat.now }
+            ensures { HasSat loads.entry.now seat.entry.now seat.exit.now }
+        { do_job(rt, alloc, loads, turn, outlet, seat) },
+    );
+}
+
+/// All jobs, while the caller takes the pieces that come and writes them.
+pub fn do_beside<R: Threads + Wait + Sync, S: Shelf, T: Turn + Sync>(
+    rt: &R,
+    alloc: Global,
+    loads: &Loads,
+    turn: &T,
+    outlet: &Outlet,
+    collector: &mut Collector<'_>,
+    shelf: &mut S,
+    seats: &mut [Seat<'_>],
+)
+    requires seats { All (CanSit loads.now outlet.now) seats.old }
+    requires outlet { collector.old.taker.outlet ≡ outlet.now }
+    requires ready { IsReadyToWrite collector.old (S.files shelf.old) }
+    ensures sat { (i : ℕ) (d : _) → i < length seats.old
+        → HasSat loads.now (slice_index_or seats.old i d) (slice_index_or seats.new i d) }
+    ensures drains { Drains collector.old collector.new (S.files shelf.old) (S.files shelf.new)
+        (S.write_faults shelf.old) (S.write_faults shelf.new) }
+    ensures ready { IsReadyToWrite collector.new (S.files shelf.new) }
+    ensures reads { S.read_faults shelf.new ≡ S.read_faults shelf.old }
+    ensures none { collector.old.names ≡ None
+        → (shelf.new ≡ shelf.old) × (collector.new.written ≡ collector.old.written) }
+{
+    let bell = Bell::new();
+    thread::join_mut(
+        rt,
+        &mut ||
+            requires { IsSync R.row × IsSync T.row × All (CanSit loads.now outlet.now) seats.now }
+            ensures { (i : ℕ) (d : _) → i < length seats.entry.now
+                → HasSat loads.entry.now (slice_index_or seats.entry.now i d)
+                (slice_index_or seats.exit.now i d) }
+        {
+            bell.begin();
+            do_all(rt, alloc, loads, turn, outlet, seats);
+            bell.end();
+        },
+        &mut || collector.take_beside(rt, alloc, outlet, shelf, &bell),
+    );
 }

@@ -1,10 +1,8 @@
 //! The end of a run: every kit is admitted, the caller's clone is made if it is wanted, and the tables are closed.
 ghost use Rattle.std.specs.Prelude.{◌≡◌, ◌<◌, ◌+◌, ◌^◌, ℕ, IfOk, List, false, length, slice_index_or, true};
-ghost use Rattle.snap_crew.specs.Endings.{IsEnd, IsEnding};
-ghost use Rattle.snap_crew.specs.Works.{IsNumbered};
+ghost use Rattle.snap_crew.specs.{Endings.IsEnd, Endings.IsEnding, Works.AreOfWorker};
 ghost use Rattle.snap_prelude.specs.{after, Known};
-ghost use Rattle.snap_service.specs.Prelude.{Admits, AdmitsAll, AreSeated};
-ghost use Rattle.snap_service.specs.Prelude.{AreTables, IsCallers, IsUncut, pass_at};
+ghost use Rattle.snap_service.specs.Prelude.{Admits, AdmitsAll, AreSeated, AreTables, IsCallers, IsUncut, pass_at};
 ghost use Rattle.snap_text.specs.Tables.{table_text};
 
 use snap_model::OutOfMemory;
@@ -37,7 +35,7 @@ pub fn end_run<R: Wait>(
     requires receipts { (i : ℕ) (d : _) → i < length receipts.items
         → AreSeated service (slice_index_or receipts.items i d) }
     requires numbered { (i : ℕ) (d : _) → i < length receipts.items
-        → IsNumbered i (slice_index_or receipts.items i d) }
+        → AreOfWorker i (slice_index_or receipts.items i d) }
     requires every_kit { service.kits ≡ length receipts.items + 1 }
     requires uses { (pass_at own 0).view.uses < 2 ^ 48 }
     ensures { IfOk result (IsEnd service receipts.items last) }

@@ -1,7 +1,6 @@
 //! The jobs of a run: a session for each script.
 ghost use Rattle.std.specs.Prelude.{◌≡◌, ◌<◌, ℕ, IfOk, length, slice_index_or};
-ghost use Rattle.snap_crew.specs.Jobs.{IsJob, IsScript};
-ghost use Rattle.snap_crew.specs.Works.{commands_of};
+ghost use Rattle.snap_crew.specs.{Jobs.IsJob, Jobs.IsRunnableOn, Works.script_commands};
 ghost use Rattle.snap_service.specs.Prelude.{AreTables, new_kit};
 
 use crate::crew::Job;
@@ -23,12 +22,12 @@ pub fn open_jobs<'t>(
     requires kits { (i : ℕ) (d : _) → i < length scripts.now
         → slice_index_or kits.items i d ≡ new_kit service.now.laid i }
     requires scripts { (i : ℕ) (d : _) → i < length scripts.now
-        → IsScript service.now.names loads.now (commands_of (slice_index_or scripts.now i d)) }
+        → IsRunnableOn service.now.names loads.now (script_commands (slice_index_or scripts.now i d)) }
     requires few { length scripts.now < 33 }
     ensures many { IfOk result (λ jobs. length jobs.items ≡ length scripts.now) }
     ensures each { IfOk result
         (λ jobs. (i : ℕ) (d : _) (e : _) → i < length scripts.now
-        → IsJob loads.now service.now (commands_of (slice_index_or scripts.now i d)) i
+        → IsJob loads.now service.now (script_commands (slice_index_or scripts.now i d)) i
         (slice_index_or jobs.items i e)) }
 {
     let mut jobs = Vec::new(alloc);

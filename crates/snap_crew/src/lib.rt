@@ -2,16 +2,18 @@
 //! came to, once all have ended and the tables are closed.
 #![tactic(auto)]
 
-mod answers;
 mod crew;
 mod ending;
 mod jobs;
+mod leaving;
 mod scripts;
+mod seats;
 mod worker;
 
-pub use answers::Answers;
-pub use crew::{Done, Job, do_all, do_job};
+pub use crew::{Job, do_all, do_beside, do_job};
 pub use ending::{Ending, end_run};
 pub use jobs::open_jobs;
-pub use scripts::{Finished, Task, run_scripts};
+pub use leaving::{Done, Room, run_all};
+pub use scripts::{Crew, Finished, Ran, Task, run_scripts};
+pub use seats::{Seat, open_seats};
 pub use worker::work;

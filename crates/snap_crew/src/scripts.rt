@@ -1,18 +1,22 @@
 //! Scripts on tables of their own, from opening to closing.
-ghost use Rattle.std.specs.Prelude.{◌≡◌, ◌<◌, ℕ, IfOk, length, slice_index_or};
-ghost use Rattle.snap_crew.specs.Endings.{IsFinished};
-ghost use Rattle.snap_crew.specs.Jobs.{IsHanded, IsScript, IsTask};
-ghost use Rattle.snap_crew.specs.Works.{HasWorked, commands_of};
-ghost use Rattle.snap_service.specs.Prelude.{AreTables, new_kit, opened};
+ghost use Rattle.std.specs.Prelude.{◌≡◌, ◌≤◌, ◌<◌, ◌+◌, ℕ, All, IfOk, IfSome, IsOk, None, OnOk, length, map, slice_index_or};
+ghost use Rattle.snap_crew.specs.{Endings.Finishes, Jobs.IsCrew, Jobs.IsRunnableOn, Jobs.IsTask, Ran.HasRunJobs};
+ghost use Rattle.snap_crew.specs.{Ran.RunsCrew, Works.script_commands};
+ghost use Rattle.snap_desk.specs.Files.{AreFilesApart, AreBlank, KeepsOthers, all_files_named, answer_names, names_in};
+ghost use Rattle.snap_io.specs.Prelude.{Changes, IfTold};
+ghost use Rattle.snap_service.specs.Prelude.{AreTables, new_kit};
 
-use crate::answers::Answers;
-use crate::crew::{Done, do_all};
 use crate::ending::{Ending, end_run};
 use crate::jobs::open_jobs;
-use snap_io::Turn;
+use crate::leaving::{Done, Room, run_all};
+use crate::seats::{Seat, open_seats};
+use snap_desk::Collector;
+use snap_io::{Shelf, Turn};
 use snap_model::{Name, OutOfMemory};
+use snap_outlet::{Outlet, Taker};
 use snap_service::{Fronts, Kit, KitReceipt, Service};
 use snap_text::{Loads, Script};
+use snap_write::Unwritten;
 use std::alloc::Global;
 use std::sync::Wait;
 use std::thread::Threads;
@@ -26,110 +30,230 @@ pub struct Task<'a> {
     pub tables: &'a [Name],
     /// The load files that the scripts name.
     pub loads: &'a Loads,
+    /// The reply files, one for each script, where replies and exports are written.
+    pub replies: Option<&'a [Name]>,
     /// The rows of each table.
     pub rows: u32,
     /// Whether the text of the first table is wanted at the end.
     pub last: bool,
 }
 
-/// What the scripts came to: of each worker its answers, the closed tables, and the text of the first of them where it
-/// was wanted.
+/// What the scripts came to: of each worker how many replies were full; why not all files were written, if so; the closed
+/// tables, and the text of the first of them where it was wanted.
 #[derive(Drop)]
 pub struct Finished {
-    pub answers: Vec<Answers>,
+    pub fulls: Vec<u64>,
+    pub written: Result<(), Unwritten>,
     pub fronts: Fronts,
     pub last: Option<Vec<u8>>,
 }
 
-// What the workers handed over: place i is worker i's.
+/// What the workers left: place i is worker i's.
 #[derive(Drop)]
-struct Parts {
-    receipts: Vec<KitReceipt>,
-    answers: Vec<Answers>,
+pub struct Ran {
+    pub receipts: Vec<KitReceipt>,
+    pub fulls: Vec<u64>,
+    pub written: Result<(), Unwritten>,
 }
 
-/// Runs each script by a worker of its own on new tables, and closes the tables. Where memory ran out at any worker, it
-/// is the caller's want of memory.
-pub fn run_scripts<R: Threads + Wait + Sync, T: Turn + Sync>(
+/// The workers at their seats, and the outlet by which their pieces come.
+#[derive(Drop)]
+pub struct Crew<'t> {
+    pub outlet: Outlet,
+    pub taker: Taker,
+    pub seats: Vec<Seat<'t>>,
+    pub room: Room,
+}
+
+/// Runs each script by a worker of its own on new tables, and closes the tables. What the commands come to is written while
+/// they run, up to the first piece that can't be. The reply files were made before; where that failed, nothing is written.
+/// Where memory ran out at any worker, it is the caller's want of memory.
+pub fn run_scripts<R: Threads + Wait + Sync, S: Shelf, T: Turn + Sync>(
     rt: &R,
     alloc: Global,
     task: &Task<'_>,
     turn: &T,
+    shelf: &mut S,
+    made: Result<(), Unwritten>,
 ) -> Result<Finished, OutOfMemory>
-    requires { IsTask task.now.tables.now task.now.rows task.now.loads.now task.now.scripts.now }
-    ensures { IfOk result
-        (IsFinished task.now.tables.now task.now.rows task.now.loads.now task.now.scripts.now
-        task.now.last) }
+    requires task { IsTask task.now.tables.now task.now.rows task.now.loads.now
+        task.now.scripts.now }
+    requires some_scripts { 1 ≤ length task.now.scripts.now }
+    requires files { IfSome task.now.replies (λ names. AreFilesApart names.now (map script_commands task.now.scripts.now)) }
+    requires blank { OnOk made
+        (IfSome task.now.replies (λ names. IfTold (S.files shelf.old) (AreBlank names.now))) }
+    ensures finished { IfOk result
+        (Finishes task.now made (S.files shelf.old) (S.files shelf.new)
+        (S.write_faults shelf.old) (S.write_faults shelf.new)) }
+    ensures kept { Changes (S.files shelf.old) (S.files shelf.new)
+        (KeepsOthers
+        (answer_names (names_in task.now.replies) (all_files_named (map script_commands task.now.scripts.now)))) }
+    ensures later { S.write_faults shelf.old ≤ S.write_faults shelf.new }
+    ensures reads { S.read_faults shelf.new ≡ S.read_faults shelf.old }
+    ensures none { task.now.replies ≡ None → shelf.new ≡ shelf.old }
 {
-    let scripts = task.scripts;
-    let kits = scripts.len() as u32 + 1;
+    let kits = task.scripts.len() as u32 + 1;
     let (service, mut opened) = Service::open(alloc, task.tables, task.rows, kits)?;
     let Some(own) = opened.pop() else {
         unreachable!()
     };
-    let parts = run_jobs(rt, alloc, &service, opened, scripts, task.loads, turn)?;
-    let Parts { receipts, answers } = parts;
+    let ran = run_jobs(rt, alloc, &service, opened, task, turn, shelf, made)?;
+    let Ran {
+        receipts,
+        fulls,
+        written,
+    } = ran;
     let Ending { fronts, last } = end_run(rt, alloc, service, own, receipts, task.last)?;
     Ok(Finished {
-        answers,
+        fulls,
+        written,
         fronts,
         last,
     })
 }
 
 // Runs each script by the kit of its number, and hands over what the workers left.
-fn run_jobs<R: Threads + Wait + Sync, T: Turn + Sync>(
+fn run_jobs<R: Threads + Wait + Sync, S: Shelf, T: Turn + Sync>(
     rt: &R,
     alloc: Global,
     service: &Service,
     kits: Vec<Kit>,
-    scripts: &[Script],
-    loads: &Loads,
+    task: &Task<'_>,
     turn: &T,
-) -> Result<Parts, OutOfMemory>
+    shelf: &mut S,
+    made: Result<(), Unwritten>,
+) -> Result<Ran, OutOfMemory>
     requires tables { AreTables service.now }
-    requires a_kit_each { length kits.items ≡ length scripts.now }
-    requires kits { (i : ℕ) (d : _) → i < length scripts.now
+    requires a_kit_each { length kits.items ≡ length task.now.scripts.now }
+    requires kits { (i : ℕ) (d : _) → i < length task.now.scripts.now
         → slice_index_or kits.items i d ≡ new_kit service.now.laid i }
-    requires scripts { (i : ℕ) (d : _) → i < length scripts.now
-        → IsScript service.now.names loads.now (commands_of (slice_index_or scripts.now i d)) }
-    requires few { length scripts.now < 33 }
-    ensures receipts { IfOk result (λ parts. length parts.receipts.items ≡ length scripts.now) }
-    ensures answers { IfOk result (λ parts. length parts.answers.items ≡ length scripts.now) }
-    ensures worked { IfOk result
-        (λ parts. (i : ℕ) (s : _) (d : _) (a : _) → i < length scripts.now
-        → HasWorked loads.now i (commands_of (slice_index_or scripts.now i s))
-        (opened service.now (new_kit service.now.laid i)) (slice_index_or parts.receipts.items i d)
-        (slice_index_or parts.answers.items i a)) }
+    requires scripts { (i : ℕ) (d : _) → i < length task.now.scripts.now
+        → IsRunnableOn service.now.names task.now.loads.now
+        (script_commands (slice_index_or task.now.scripts.now i d)) }
+    requires some { 1 ≤ length task.now.scripts.now }
+    requires few { length task.now.scripts.now ≤ 32 }
+    requires files { IfSome task.now.replies (λ names. AreFilesApart names.now (map script_commands task.now.scripts.now)) }
+    requires blank { OnOk made
+        (IfSome task.now.replies (λ names. IfTold (S.files shelf.old) (AreBlank names.now))) }
+    ensures ran { IfOk result
+        (λ ran. HasRunJobs task.now.loads.now service.now task.now.scripts.now task.now.replies made
+        ran (S.files shelf.old) (S.files shelf.new)
+        (S.write_faults shelf.old) (S.write_faults shelf.new)) }
+    ensures kept { Changes (S.files shelf.old) (S.files shelf.new)
+        (KeepsOthers
+        (answer_names (names_in task.now.replies) (all_files_named (map script_commands task.now.scripts.now)))) }
+    ensures later { S.write_faults shelf.old ≤ S.write_faults shelf.new }
+    ensures reads { S.read_faults shelf.new ≡ S.read_faults shelf.old }
+    ensures none { task.now.replies ≡ None → shelf.new ≡ shelf.old }
 {
-    let jobs = open_jobs(alloc, service, kits, scripts, loads)?;
-    let all = do_all(rt, alloc, loads, turn, jobs)?;
-    let parts = parted(alloc, all)?;
-    Ok(parts)
+    let crew = open_crew(alloc, service, kits, task)?;
+    let (done, written) = run_crew(rt, alloc, task, turn, shelf, made, crew);
+    parted(alloc, done, written)
 }
 
-// Receipts and answers apart, in the same order, unless memory ran out at some worker.
-fn parted(alloc: Global, all: Vec<Result<Done, OutOfMemory>>) -> Result<Parts, OutOfMemory>
-    ensures many_receipts { IfOk result (λ parts. length parts.receipts.items ≡ length all.items) }
-    ensures many_answers { IfOk result (λ parts. length parts.answers.items ≡ length all.items) }
-    ensures receipts { IfOk result
-        (λ parts. (i : ℕ) (d : _) (e : _) → i < length all.items
-        → IsHanded (slice_index_or all.items i e)
-        (λ done. slice_index_or parts.receipts.items i d ≡ done.receipt)) }
-    ensures answers { IfOk result
-        (λ parts. (i : ℕ) (d : _) (e : _) → i < length all.items
-        → IsHanded (slice_index_or all.items i e)
-        (λ done. slice_index_or parts.answers.items i d ≡ done.answers)) }
+// The workers at their seats. All lists that they or the caller need until the files are written get their memory here.
+fn open_crew<'t>(
+    alloc: Global,
+    service: &'t Service,
+    kits: Vec<Kit>,
+    task: &Task<'t>,
+) -> Result<Crew<'t>, OutOfMemory>
+    requires tables { AreTables service.now }
+    requires a_kit_each { length kits.items ≡ length task.now.scripts.now }
+    requires kits { (i : ℕ) (d : _) → i < length task.now.scripts.now
+        → slice_index_or kits.items i d ≡ new_kit service.now.laid i }
+    requires scripts { (i : ℕ) (d : _) → i < length task.now.scripts.now
+        → IsRunnableOn service.now.names task.now.loads.now
+        (script_commands (slice_index_or task.now.scripts.now i d)) }
+    requires some { 1 ≤ length task.now.scripts.now }
+    requires few { length task.now.scripts.now ≤ 32 }
+    requires names { IfSome task.now.replies
+        (λ names. length names.now ≡ length task.now.scripts.now) }
+    ensures { IfOk result
+        (IsCrew task.now.loads.now service.now task.now.scripts.now task.now.replies) }
+{
+    let workers = task.scripts.len();
+    let (outlet, senders, taker) = Outlet::open(alloc, workers as u32)?;
+    let room = Room::new(alloc, workers)?;
+    let jobs = open_jobs(alloc, service, kits, task.scripts, task.loads)?;
+    let seats = open_seats(alloc, &outlet, jobs, senders, task.replies)?;
+    Ok(Crew {
+        outlet,
+        taker,
+        seats,
+        room,
+    })
+}
+
+// Runs all workers of a crew, and writes all that they put out.
+fn run_crew<R: Threads + Wait + Sync, S: Shelf, T: Turn + Sync>(
+    rt: &R,
+    alloc: Global,
+    task: &Task<'_>,
+    turn: &T,
+    shelf: &mut S,
+    made: Result<(), Unwritten>,
+    crew: Crew<'_>,
+) -> (Vec<Done>, Result<(), Unwritten>)
+    requires crew { (tables : _)
+        × IsCrew task.now.loads.now tables task.now.scripts.now task.now.replies crew }
+    requires files { IfSome task.now.replies (λ names. AreFilesApart names.now (map script_commands task.now.scripts.now)) }
+    requires blank { OnOk made
+        (IfSome task.now.replies (λ names. IfTold (S.files shelf.old) (AreBlank names.now))) }
+    ensures ran { RunsCrew task.now.loads.now task.now.replies made crew.entry result.0.items result.1
+        (S.files shelf.old) (S.files shelf.new)
+        (S.write_faults shelf.old) (S.write_faults shelf.new) }
+    ensures reads { S.read_faults shelf.new ≡ S.read_faults shelf.old }
+    ensures none { task.now.replies ≡ None → (shelf.new ≡ shelf.old) × (result.1 ≡ made) }
+{
+    let Crew {
+        outlet,
+        taker,
+        seats,
+        room,
+    } = crew;
+    let mut collector = Collector {
+        taker,
+        names: task.replies,
+        written: made,
+    };
+    let done = run_all(
+        rt,
+        alloc,
+        task.loads,
+        turn,
+        &outlet,
+        &mut collector,
+        shelf,
+        seats,
+        room,
+    );
+    let Collector { written, .. } = collector;
+    (done, written)
+}
+
+// Receipts and counts apart, in their order, unless memory ran out at some worker.
+fn parted(alloc: Global, all: Vec<Done>, written: Result<(), Unwritten>) -> Result<Ran, OutOfMemory>
+    ensures receipts { IfOk result (λ ran. ran.receipts.items ≡ map (λ d. d.receipt) all.items) }
+    ensures fulls { IfOk result (λ ran. ran.fulls.items ≡ map (λ d. d.full) all.items) }
+    ensures written { IfOk result (λ ran. ran.written ≡ written) }
+    ensures came { OnOk result (All (λ d. IsOk d.came) all.items) }
 {
     let mut receipts = Vec::new(alloc);
-    let mut answers = Vec::new(alloc);
-    let mut left = all;
-    while let Some(handed) = left.pop() {
-        let done = handed?;
-        receipts.push(done.receipt)?;
-        answers.push(done.answers)?;
+    let mut fulls = Vec::new(alloc);
+    for done in all {
+        let Done {
+            receipt,
+            full,
+            came,
+        } = done;
+        came?;
+        receipts.push(receipt)?;
+        fulls.push(full)?;
     }
-    receipts.reverse();
-    answers.reverse();
-    Ok(Parts { receipts, answers })
+    Ok(Ran {
+        receipts,
+        fulls,
+        written,
+    })
 }

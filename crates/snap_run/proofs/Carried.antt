@@ -1,27 +1,22 @@
 -- A plan that was carried out, from what its workers handed over and what was written and told.
 use Rattle.snap_prelude.proofs.Common.{length-map, option_to_list}
-use Rattle.std.proofs.Common.{◌≡◌, ◌≢◌, ◌⊎◌, ◌<◌, ◌≤◌, ◌+◌, ◌*◌, ◌^◌, ℕ, List, [], ◌∷◌, ◌++◌, Option, Some, None, length, get_or, inl, inr, refl, sym, ◌∙◌, ap, ap₂, subst, append_assoc, arith, IfSome, is_some, map, unwrap_or}
-use Rattle.std.proofs.lemmas.List.Sums.{sum_by-le}
+use Rattle.std.proofs.Common.{◌≡◌, ◌≢◌, ◌<◌, ◌≤◌, ◌+◌, ◌^◌, ℕ, List, [], ◌∷◌, ◌++◌, Option, Some, None, length, get_or, inl, inr, refl, sym, ◌∙◌, ap, ap₂, subst, append_assoc, arith, IfSome, is_some, map, sum_by, unwrap_or}
+use Rattle.std.proofs.lemmas.List.Sums.{sum_by-cons, sum_by-le}
 use Rattle.snap_fits.specs.Fits.{Front, Setting, Told}
 use Rattle.snap_text.specs.declared.script.Line.{Line}
 use Rattle.snap_service.specs.Prelude.{fronts_of}
-use Rattle.snap_crew.specs.Prelude.{commands_of, fulls_of, HasFit, IsFinished}
-use Rattle.snap_crew.specs.declared.answers.Answers.{Answers}
+use Rattle.snap_crew.specs.Prelude.{Answered, answer_names, answers_in, script_commands, exports_in, fulls_of, HasFit, IsFinished, replies_in}
 use Rattle.snap_crew.specs.declared.scripts.Finished.{Finished}
 use Rattle.snap_crew.proofs.Replying.{few_fulls, fulls_told}
-use Rattle.snap_plan.specs.Needs.{all_commands, exports_named}
-use Rattle.snap_plan.specs.Runnable.{IsRunnable, files_written}
-use Rattle.snap_plan.specs.declared.plan.Plan.{Plan}
+use Rattle.snap_plan.specs.{Needs.all_commands, Needs.exports_named, Runnable.files_written, Runnable.IsRunnable}
+use Rattle.snap_plan.specs.{declared.plan.Plan.Plan}
 use Rattle.snap_write.specs.Outputs.{Outputs, names_of}
-use Rattle.snap_run.specs.Files.{answer_files, answer_names, answers_in, exports_in}
-use Rattle.snap_run.specs.Files.{last_in, names_written, outputs, replies_in, setting_for}
-use Rattle.snap_run.specs.Outcomes.{OnlyWorkers}
-use Rattle.snap_run.specs.Printed.{entries, first_line, fulls, summary, table_lines}
-use Rattle.snap_run.specs.Reports.{fulls_in, lines_in, summary_in}
-use Rattle.snap_run.proofs.Pairs.{Differ, new_differ}
-use Rattle.snap_run.proofs.Told.{AllFit, all_fit, names_append, told_entries, told_exports}
-use Rattle.snap_run.proofs.Told.{told_fulls, told_many, told_names, told_replies, tolds}
-use Rattle.snap_run.proofs.Writes.{last_is, last_names, reply_names}
+use Rattle.snap_run.specs.{Files.answer_files, Files.last_in, Files.names_written, Files.run_outputs, Files.setting_for}
+use Rattle.snap_run.specs.{Outcomes.OnlyWorkers, Printed.entries, Printed.first_line, Printed.fulls, Printed.summary}
+use Rattle.snap_run.specs.{Printed.table_lines, Reports.fulls_in, Reports.lines_in, Reports.summary_in}
+use Rattle.snap_run.proofs.{Pairs.Differ, Pairs.new_differ, Told.all_fit, Told.AllFit, Told.names_append}
+use Rattle.snap_run.proofs.{Told.told_entries, Told.told_exports, Told.told_fulls, Told.told_many, Told.told_names}
+use Rattle.snap_run.proofs.{Told.told_replies, Told.tolds, Writes.last_is, Writes.last_names, Writes.reply_names}
 
 -- no more replies are full than there are commands
 full_told : (ts : List Told) → fulls_of ts ≤ length ts
@@ -38,22 +33,24 @@ one_differs : (last : Option (List ℕ)) → Differ (option_to_list last)
 one_differs None i j d l m same = omega (arith, l, m)
 one_differs (Some name) i j d l m same = omega (arith, l, m)
 
-answers_are : (replies : Option (List (List ℕ))) (s : Setting) (fronts : ℕ → Front) (xs : List (List Line)) (bs : List Answers) (h : AllFit s fronts 0 xs bs) → answers_in replies bs ≡ answer_files replies s fronts (tolds s fronts 0 xs bs h)
+answers_are : (replies : Option (List (List ℕ))) (s : Setting) (fronts : ℕ → Front) (xs : List (List Line)) (bs : List Answered) (h : AllFit s fronts 0 xs bs) → answers_in replies bs ≡ answer_files replies s fronts (tolds s fronts 0 xs bs h)
 answers_are None s fronts xs bs h = refl
 answers_are (Some names) s fronts xs bs h = ap₂ (λ (a b : Outputs). a ++ b) (told_replies s fronts names 0 xs bs h) (told_exports s fronts 0 xs bs h)
 
-module _ (plan : Plan) (runs : IsRunnable plan) (replied : IfSome plan.replies (λ names. length names ≡ length plan.scripts)) (f : Finished) (fin : IsFinished plan.tables plan.rows plan.loads plan.scripts (is_some plan.last) f) where
+-- the numbers of all workers together
+all_full : (bs : List Answered) → fulls_in (map (λ (a : Answered). a.full) bs) ≡ sum_by (λ (a : Answered). a.full) bs
+all_full [] = refl
+all_full (b ∷ bs) = sum_by-cons (λ (n : ℕ). n) b.full (map (λ (a : Answered). a.full) bs) ∙ ap (λ (n : ℕ). b.full + n) (all_full bs) ∙ sym (sum_by-cons (λ (a : Answered). a.full) b bs)
+
+module _ (plan : Plan) (runs : IsRunnable plan) (replied : IfSome plan.replies (λ names. length names ≡ length plan.scripts)) (bs : List Answered) (f : Finished) (fin : IsFinished plan.tables plan.rows plan.loads plan.scripts (is_some plan.last) bs f) where
   abbrev s : Setting
   s = setting_for plan
 
   abbrev fronts : ℕ → Front
   fronts = fronts_of f.fronts
 
-  abbrev bs : List Answers
-  bs = f.answers.items
-
   pub fit : AllFit s fronts 0 plan.scripts bs
-  fit = all_fit s fronts 0 plan.scripts bs fin.answers_each (λ i d a l. (let e : i ≡ 0 + i = omega arith in subst (λ (n : ℕ). HasFit s fronts n (commands_of (get_or plan.scripts i d)) (get_or bs i a)) e (fin.fits i d a l)))
+  fit = all_fit s fronts 0 plan.scripts bs fin.answers_each (λ i d a l. (let e : i ≡ 0 + i = omega arith in subst (λ (n : ℕ). HasFit s fronts n (script_commands (get_or plan.scripts i d)) (get_or bs i a)) e (fin.fits i d a l)))
 
   abbrev pub told : List (List Told)
   told = tolds s fronts 0 plan.scripts bs fit
@@ -61,21 +58,21 @@ module _ (plan : Plan) (runs : IsRunnable plan) (replied : IfSome plan.replies (
   abbrev pub outs : Outputs
   outs = answers_in plan.replies bs ++ last_in plan.last f.last
 
-  pub outs_are : outs ≡ outputs plan told f.fronts
+  pub outs_are : outs ≡ run_outputs plan told f.fronts
   outs_are = ap₂ (λ (a b : Outputs). a ++ b) (answers_are plan.replies s fronts plan.scripts bs fit) (last_is plan.last f.last (fronts 0) fin.text)
 
-  pub text_are : summary_in plan.scripts bs plan.tables f.fronts ≡ summary plan told f.fronts
-  text_are = ap (λ (n : ℕ). first_line n (lines_in plan.scripts) (fulls_in bs) ++ table_lines plan.tables f.fronts) (sym (told_many s fronts 0 plan.scripts bs fit))
-      ∙ ap (λ (n : ℕ). first_line (length told) n (fulls_in bs) ++ table_lines plan.tables f.fronts) (told_entries s fronts 0 plan.scripts bs fit)
-      ∙ ap (λ (n : ℕ). first_line (length told) (entries told) n ++ table_lines plan.tables f.fronts) (told_fulls s fronts 0 plan.scripts bs fit)
+  pub fulls_are : fulls_in f.fulls.items ≡ fulls told
+  fulls_are = ap fulls_in fin.fulls ∙ all_full bs ∙ told_fulls s fronts 0 plan.scripts bs fit
 
-  pub fulls_are : fulls_in bs ≡ fulls told
-  fulls_are = told_fulls s fronts 0 plan.scripts bs fit
+  pub text_are : summary_in plan.scripts f.fulls.items plan.tables f.fronts ≡ summary plan told f.fronts
+  text_are = ap (λ (n : ℕ). first_line n (lines_in plan.scripts) (fulls_in f.fulls.items) ++ table_lines plan.tables f.fronts) (sym (told_many s fronts 0 plan.scripts bs fit))
+      ∙ ap (λ (n : ℕ). first_line (length told) n (fulls_in f.fulls.items) ++ table_lines plan.tables f.fronts) (told_entries s fronts 0 plan.scripts bs fit)
+      ∙ ap (λ (n : ℕ). first_line (length told) (entries told) n ++ table_lines plan.tables f.fronts) fulls_are
 
   pub few_commands : lines_in plan.scripts < 2 ^ 63
   few_commands = let all = sum_by-le (λ (x : List Line). length x) 1000300 plan.scripts (λ i d l. (let x = runs.scripts i d l in x.few)) in omega (arith, all, runs.few_scripts)
 
-  pub few_full : fulls_in bs < 2 ^ 63
+  pub few_full : fulls_in f.fulls.items < 2 ^ 63
   few_full = omega (arith, few_commands, told_entries s fronts 0 plan.scripts bs fit, full_entries told, fulls_are)
 
   pub only_workers : (t : ℕ) → OnlyWorkers (length plan.scripts) ((t ≡ 0) × (plan.last ≢ None)) (fronts t)

@@ -2,31 +2,22 @@
 use Rattle.std.proofs.Common.{◌≡◌, ◌⊎◌, ℕ, List, [], ◌∷◌, ◌++◌, Option, Some, None, Result, Ok, Err, inl, inr, refl, sym, subst, IfErr, IfSome, IsErr, fold}
 use Rattle.snap_io.specs.Prelude.{Files, IfTold, Rose}
 use Rattle.snap_prelude.specs.{Command}
-use Rattle.snap_text.specs.Loads.{load_of}
-use Rattle.snap_text.specs.Scripts.{script_of}
-use Rattle.snap_text.specs.declared.fault.PairsFault.{PairsFault}
+use Rattle.snap_text.specs.{Loads.load_of, Scripts.script_of, declared.fault.PairsFault.PairsFault}
+use Rattle.snap_text.specs.{declared.fault.ScriptFault.ScriptFault, declared.script.Line.Line}
 use Rattle.snap_text.specs.declared.fault.PairsFault.TheVariants as pairs
-use Rattle.snap_text.specs.declared.fault.ScriptFault.{ScriptFault}
 use Rattle.snap_text.specs.declared.fault.ScriptFault.TheVariants as script
-use Rattle.snap_text.specs.declared.script.Line.{Line}
-use Rattle.snap_words.specs.Outputs.{outputs}
-use Rattle.snap_words.specs.Words.{job_of}
-use Rattle.snap_words.specs.declared.words.Job.{Job}
-use Rattle.snap_words.specs.declared.words.Work.{Work}
-use Rattle.snap_words.specs.declared.words.Work.TheVariants.{Made, Scripts}
-use Rattle.snap_words.specs.declared.words.WordsRefusal.{WordsRefusal}
+use Rattle.snap_words.specs.{Outputs.outputs, Words.job_of, declared.words.Job.Job, declared.words.Work.Work}
+use Rattle.snap_words.specs.{declared.words.Work.TheVariants.Made, declared.words.Work.TheVariants.Scripts}
+use Rattle.snap_words.specs.{declared.words.WordsRefusal.WordsRefusal}
 use Rattle.snap_plan.specs.Endings.{OfMade, OfMadeWork, checked_scripts, ending_of, ending_of_job, inputs_of, plan_for}
 use Rattle.snap_plan.specs.Inputs.{Input, unless_stopped, as_load, as_script, first_missing, inputs_in, loads_in, meanings, or_load_stop, or_script_stop, scripts_in, unless_missing, with_meaning}
 use Rattle.snap_plan.specs.Needs.{NamedLine, all_commands, limit_of, loads_named, named_lines, passed_from, passed_in, stop_at, unless_passed}
-use Rattle.snap_plan.specs.Stops.{IsOfWords, IsPastWords, IsStopOf, StopsBy, status_of}
-use Rattle.snap_plan.specs.declared.needs.Limit.{Limit}
-use Rattle.snap_plan.specs.declared.plan.Plan.{Plan}
-use Rattle.snap_plan.specs.declared.stop.Stop.{Stop}
+use Rattle.snap_plan.specs.{Stops.IsOfWords, Stops.IsPastWords, Stops.IsStopOf, Stops.status_of, Stops.StopsBy}
+use Rattle.snap_plan.specs.{declared.needs.Limit.Limit, declared.plan.Plan.Plan, declared.stop.Stop.Stop}
 use Rattle.snap_plan.specs.declared.stop.Stop.TheVariants as stop
 use Rattle.snap_write.specs.Outputs.{Outputs}
-use Rattle.snap_run.specs.Outcomes.{HasStatus, IsCarried, Leaves, Whole}
-use Rattle.snap_run.specs.Worlds.{World, world}
-use Rattle.snap_run.specs.declared.outcome.Outcome.{Outcome}
+use Rattle.snap_run.specs.{Outcomes.HasStatus, Outcomes.IsCarried, Outcomes.Leaves, Outcomes.Whole, Worlds.World}
+use Rattle.snap_run.specs.{Worlds.world, declared.outcome.Outcome.Outcome}
 
 -- files don't refuse words
 then_past : {A B : Type 0} (r : Result A Stop) (next : A → Result B Stop) → IfErr r IsPastWords → ((x : A) → IfErr (next x) IsPastWords) → IfErr (unless_stopped r next) IsPastWords

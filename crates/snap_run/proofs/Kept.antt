@@ -1,15 +1,16 @@
 -- Files that a run leaves alone.
+use Rattle.std.specs.Global.{Global}
 use Rattle.snap_prelude.proofs.Common.{option_to_list}
-use Rattle.std.proofs.Common.{◌≡◌, ◌⊎◌, ℕ, Bool, true, false, List, [], ◌∷◌, ◌++◌, Option, Some, None, Result, Ok, Err, inl, inr, refl, sym, ap, subst, ◌∙◌, OnErr, OnOk, unwrap_or}
+use Rattle.std.proofs.Common.{◌≡◌, ◌⊎◌, ℕ, Bool, true, false, List, [], ◌∷◌, ◌++◌, Option, Some, None, Result, Ok, Err, inl, inr, refl, sym, ap, subst, ◌∙◌, OnErr, OnOk, Vec, unwrap_or}
 use Rattle.snap_io.specs.Prelude.{Changes, Files, IfTold}
-use Rattle.snap_plan.specs.Needs.{all_commands, among, exports_named}
-use Rattle.snap_plan.specs.declared.plan.Plan.{Plan}
-use Rattle.snap_plan.specs.declared.stop.Stop.{Stop}
+use Rattle.snap_plan.specs.{Needs.all_commands, Needs.among, Needs.exports_named, declared.plan.Plan.Plan}
+use Rattle.snap_plan.specs.{declared.stop.Stop.Stop}
 use Rattle.snap_write.specs.Outputs.{HasBegun, HasFront, HasWritten, Outputs, blank, names_of, text_for}
 use Rattle.snap_write.specs.declared.unwritten.Unwritten.{Unwritten}
 use Rattle.snap_write.proofs.Written.{changes_after, changes_as, text_for-unnamed, whole_begun}
-use Rattle.snap_run.specs.Files.{IsAfter, KeepsOthers, answer_names, names_given, names_written}
-use Rattle.snap_run.proofs.Results.{any_left}
+use Rattle.snap_crew.specs.Prelude.{answer_names, IsAfter, KeepsOthers}
+use Rattle.snap_run.specs.Files.{last_in, names_given, names_written}
+use Rattle.snap_run.proofs.Results.{any_left, any_right}
 
 abbrev Keeps : List (List ℕ) → Option Files → Option Files → Type 0
 Keeps names old new = Changes old new (KeepsOthers names)
@@ -77,6 +78,18 @@ pub after_kept : (made written : Result (Unit {0}) Unwritten) (outs : Outputs) (
 after_kept (Ok u) (Ok v) outs mid new fault after = written_kept outs mid new after
 after_kept (Ok u) (Err why) outs mid new fault after = begun_kept outs mid new after.0
 after_kept (Err why) written outs mid new fault after = same_kept (names_of outs) mid new after.0
+
+-- those of the workers, and the final file
+pub answers_kept : (plan : Plan) (mid new : Option Files) → Keeps (answer_names plan.replies (exports_named (all_commands plan.scripts))) mid new → Keeps (names_written plan) mid new
+answers_kept plan mid new = wider (answer_names plan.replies (exports_named (all_commands plan.scripts))) (names_written plan) mid new (λ name is. any_left (answer_names plan.replies (exports_named (all_commands plan.scripts))) (option_to_list plan.last) name is)
+
+pub last_kept : (plan : Plan) (text : Option (Vec ℕ Global)) (mid new : Option Files) → Keeps (names_of (last_in plan.last text)) mid new → Keeps (names_written plan) mid new
+last_kept plan text mid new = wider (names_of (last_in plan.last text)) (names_written plan) mid new (λ name is. any_right (answer_names plan.replies (exports_named (all_commands plan.scripts))) (option_to_list plan.last) name (by plan.last text name is))
+  where
+    by : (last : Option (List ℕ)) (text : Option (Vec ℕ Global)) (name : List ℕ) → among (names_of (last_in last text)) name ≡ true → among (option_to_list last) name ≡ true
+    by None text name is = absurd cc
+    by (Some file) None name is = absurd cc
+    by (Some file) (Some t) name is = is
 
 -- by words and files: those of the plan that they give
 pub kept_given : (ending : Files → Result Plan Stop) (plan : Plan) (old new : Option Files) → IfTold old (λ f. ending f ≡ Ok plan) → Keeps (names_written plan) old new → Changes old new (λ f. KeepsOthers (names_given (ending f)) f)

@@ -3,6 +3,7 @@ pub mod Pairs
 pub mod Told
 pub mod Writes
 pub mod Summaries
+pub mod Asked
 pub mod Tasks
 pub mod Carried
 pub mod Settled

@@ -1,9 +1,7 @@
 -- Names that all differ.
-use Rattle.std.proofs.Common.{zero, suc, ◌≡◌, ◌≢◌, ◌⊎◌, ◌<◌, ◌+◌, ℕ, Bool, true, false, List, [], ◌∷◌, ◌++◌, Some, None, length, get_or, take, inl, inr, refl, sym, ◌∙◌, ap, append-nil, append_assoc, arith, ◌||◌, AllPairs, bytes_eq, cond}
-use Rattle.snap_prelude.proofs.Common.{get_or-take, get_or_append_left}
-use Rattle.snap_prelude.proofs.Common.{length-append, length-take-le}
-use Rattle.std.proofs.lemmas.List.Folds.{list_any_at}
-use Rattle.std.proofs.lemmas.Slice.Eq.{bytes_eq-Decides}
+use Rattle.std.proofs.Common.{zero, suc, ◌≡◌, ◌≢◌, ◌⊎◌, ◌<◌, ◌+◌, ℕ, Bool, true, false, List, [], ◌∷◌, ◌++◌, Some, None, length, get_or, take, inl, inr, refl, sym, ◌∙◌, ap, append-nil, append_assoc, arith, AllPairs, bytes_eq, cond}
+use Rattle.snap_prelude.proofs.Common.{get_or-take, get_or_append_left, length-append, length-take-le}
+use Rattle.std.proofs.{lemmas.List.Folds.list_any_at, lemmas.Slice.Eq.bytes_eq-Decides}
 use Rattle.snap_plan.specs.Needs.{AllNew, among}
 use Rattle.snap_write.specs.Outputs.{Outputs, names_of, text_for}
 use Rattle.snap_write.proofs.Written.{Apart, not_among, text_for-unnamed}

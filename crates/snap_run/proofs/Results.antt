@@ -1,34 +1,20 @@
 -- Facts of results, and of what was written before a failure.
 use Rattle.snap_prelude.proofs.Common.{list_any}
-use Rattle.std.proofs.Common.{◌≡◌, ◌≤◌, ℕ, Bool, true, false, List, ◌∷◌, ◌++◌, Option, Some, None, inl, inr, Result, Ok, Err, refl, sym, ◌∙◌, ap, subst, ◌||◌, IsErrAnd, IfErr, IfOk, OnErr, OnOk, bytes_eq}
+use Rattle.std.proofs.Common.{◌≡◌, ℕ, Bool, true, false, List, ◌++◌, Option, Some, None, inl, inr, Result, Ok, Err, refl, ◌∙◌, ap, ◌||◌, IfOk, OnErr, OnOk, bytes_eq}
 use Rattle.std.proofs.lemmas.List.Folds.{list_any-append}
-use Rattle.snap_io.specs.Prelude.{Changes, Files, Puts}
-use Rattle.snap_write.specs.Outputs.{HasBegun, IsUnwritten, Outputs, names_of}
-use Rattle.snap_run.specs.Files.{IsWrittenOr}
+use Rattle.snap_io.specs.Prelude.{Puts}
+use Rattle.snap_write.specs.{Outputs.IsUnwritten, declared.unwritten.Unwritten.Unwritten}
 use Rattle.snap_run.specs.Worlds.{Tells}
-use Rattle.snap_write.specs.declared.unwritten.Unwritten.{Unwritten}
 use Rattle.snap_write.proofs.Causes.{unwritten_wider}
 
 pub on_ok : {T E : Type 0} (r : Result T E) (P Q : Type 0) → (P → Q) → OnOk r P → OnOk r Q
 on_ok (Ok x) P Q f h = f h
 on_ok (Err e) P Q f h = tt
 
-pub on_err_as : {T E : Type 0} (r : Result T E) (P Q : Type 0) → (P → Q) → OnErr r P → OnErr r Q
-on_err_as (Ok x) P Q f h = tt
-on_err_as (Err e) P Q f h = f h
-
-pub if_err_as : {T E : Type 0} (r : Result T E) (P Q : E → Type 0) → ((e : E) → P e → Q e) → IfErr r P → IfErr r Q
-if_err_as (Ok x) P Q f h = tt
-if_err_as (Err e) P Q f h = f e h
-
-pub if_ok_as : {T E : Type 0} (r : Result T E) (P Q : T → Type 0) → ((x : T) → P x → Q x) → IfOk r P → IfOk r Q
-if_ok_as (Ok x) P Q f h = f x h
-if_ok_as (Err e) P Q f h = tt
-
 pub any_left : (xs ys : List (List ℕ)) (name : List ℕ) → list_any (λ known. bytes_eq known name) xs ≡ true → list_any (λ known. bytes_eq known name) (xs ++ ys) ≡ true
 any_left xs ys name is = list_any-append (λ known. bytes_eq known name) xs ys ∙ ap (λ b. b || list_any (λ known. bytes_eq known name) ys) is
 
-any_right : (xs ys : List (List ℕ)) (name : List ℕ) → list_any (λ known. bytes_eq known name) ys ≡ true → list_any (λ known. bytes_eq known name) (xs ++ ys) ≡ true
+pub any_right : (xs ys : List (List ℕ)) (name : List ℕ) → list_any (λ known. bytes_eq known name) ys ≡ true → list_any (λ known. bytes_eq known name) (xs ++ ys) ≡ true
 any_right xs ys name is = list_any-append (λ known. bytes_eq known name) xs ys ∙ ap (λ b. list_any (λ known. bytes_eq known name) xs || b) is ∙ or_true (list_any (λ known. bytes_eq known name) xs)
   where
     or_true : (a : Bool) → (a || true) ≡ true
@@ -49,11 +35,6 @@ told_by None (Some n) text r rose puts failed = absurd puts
 told_by (Some b) None text r rose puts failed = absurd puts
 told_by (Some b) (Some n) text (Ok x) rose puts failed = inl puts
 told_by (Some b) (Some n) text (Err e) rose puts failed = inr (failed, record { part = puts.0; is = puts.1 })
-
--- a failure among files
-pub err_or : (files : Outputs) (old new : Option Files) (fault : Type 0) (r : Result (Unit {0}) Unwritten) (w : Unwritten) → IsErrAnd r (λ e. e ≡ w) → Changes old new (HasBegun files) → IsUnwritten (names_of files) fault w → IsWrittenOr files old new fault r
-err_or files old new fault (Ok u) w is begun stops = absurd is
-err_or files old new fault (Err e) w is begun stops = (begun, subst (λ x. IsUnwritten (names_of files) fault x) (sym is) stops)
 
 pub both_ok : {T E : Type 0} (r : Result T E) (P Q R : T → Type 0) → ((x : T) → P x → Q x → R x) → IfOk r P → IfOk r Q → IfOk r R
 both_ok (Ok x) P Q R f p q = f x p q

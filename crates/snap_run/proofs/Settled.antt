@@ -1,21 +1,17 @@
 -- What became of all files, and what a run leaves.
 use Rattle.snap_prelude.proofs.Common.{option_or}
 use Rattle.std.specs.Option.{option_map}
-use Rattle.std.proofs.Common.{◌≡◌, ◌≢◌, ◌⊎◌, ◌≤◌, ℕ, List, [], ◌∷◌, ◌++◌, Option, Some, None, Result, Ok, Err, length, inl, inr, sym, ◌∙◌, ap, subst, append_assoc, IfErr, OnErr, OnOk, unwrap_or}
+use Rattle.std.proofs.Common.{◌≡◌, ◌⊎◌, ◌≤◌, ℕ, List, [], ◌++◌, Option, Some, None, Result, Ok, Err, length, inl, inr, sym, ◌∙◌, ap, subst, append_assoc, IfErr, OnErr, OnOk, unwrap_or}
 use Rattle.snap_io.specs.Prelude.{Changes, Files, Rose}
-use Rattle.snap_crew.specs.declared.answers.Answers.{Answers}
 use Rattle.snap_write.specs.Outputs.{HasBegun, HasFront, HasWritten, IsUnwritten, Outputs, blank, names_of, text_for}
 use Rattle.snap_write.specs.declared.unwritten.Unwritten.{Unwritten}
 use Rattle.snap_write.specs.declared.unwritten.Unwritten.TheVariants as why
 use Rattle.snap_write.proofs.Causes.{rose_before, rose_behind, unwritten_wider}
 use Rattle.snap_write.proofs.Written.{begun_blank, begun_more, blank_for, changes_after, changes_as, text_for-append}
-use Rattle.snap_run.specs.Files.{IsAfter, IsWrittenOr, answers_in, exports_in, replies_in}
-use Rattle.snap_run.specs.Outcomes.{Leaves}
-use Rattle.snap_run.specs.Reports.{IsReported}
-use Rattle.snap_run.specs.Worlds.{World}
-use Rattle.snap_run.proofs.Results.{stop_left}
-use Rattle.snap_run.proofs.Told.{names_append}
-use Rattle.snap_run.proofs.Writes.{reply_names}
+use Rattle.snap_crew.specs.Prelude.{Answered, answers_in, exports_in, IsAfter, IsWrittenOr, replies_in}
+use Rattle.snap_run.specs.{Outcomes.Leaves, Reports.IsReported, Worlds.World}
+use Rattle.snap_run.proofs.{Pairs.Differ, Results.stop_left, Results.stop_right, Told.names_append, Writes.both_written}
+use Rattle.snap_run.proofs.{Writes.first_begun, Writes.reply_names, Writes.second_begun}
 
 -- empty files that are then written, or begun, and more files behind them
 written_over_more : (ys more : Outputs) (f g h : Files) → HasWritten (blank (names_of ys)) f g → HasWritten (ys ++ more) g h → HasWritten (ys ++ more) f h
@@ -36,7 +32,7 @@ begun_over_more ys more f g h first next name =
     join (Some t) was (inl same) = inr (0, same ∙ was)
     join o was (inr front) = inr front
 
-module _ (bs : List Answers) (rest : Outputs) where
+module _ (bs : List Answered) (rest : Outputs) where
   abbrev all : Option (List (List ℕ)) → Outputs
   all o = answers_in o bs ++ rest
 
@@ -83,6 +79,25 @@ module _ (bs : List Answers) (rest : Outputs) where
         subst (λ x. Changes old x (HasBegun (all o))) (sym after.0) (changes_as (HasBegun (blank (made_names o))) (HasBegun (all o)) (only_begun o few) old mid begun),
         first_stop o few (Rose w0 w1) (Rose w0 w2) w (λ rose. rose_before w0 w1 w2 m rose) stops,
       )
+
+-- files, and then more where these were written
+pub both_after : (xs ys : Outputs) → Differ (names_of (xs ++ ys)) → (made first last : Result (Unit {0}) Unwritten) (old mid new : Option Files) (w0 w1 w2 : ℕ) → w0 ≤ w1 → w1 ≤ w2
+    → IsAfter made first xs old mid (Rose w0 w1) → IsAfter first last ys mid new (Rose w1 w2) → IsAfter made last (xs ++ ys) old new (Rose w0 w2)
+both_after xs ys differ (Err w) first last old mid new w0 w1 w2 l m (same, is) next = stopped first is next
+  where
+    stopped : (r : Result (Unit {0}) Unwritten) → r ≡ Err w → IsAfter r last ys mid new (Rose w1 w2) → (new ≡ old) × (last ≡ Err w)
+    stopped (Ok u) is next = absurd cc
+    stopped (Err v) is (again, ended) = (again ∙ same, ended ∙ is)
+both_after xs ys differ (Ok u) (Ok v) (Ok z) old mid new w0 w1 w2 l m written more = both_written xs ys differ old mid new written more
+both_after xs ys differ (Ok u) (Ok v) (Err w) old mid new w0 w1 w2 l m written (begun, stops) = (
+  second_begun xs ys differ old mid new written begun,
+  subst (λ ns. IsUnwritten ns (Rose w0 w2) w) (sym (names_append xs ys)) (stop_right (names_of xs) (names_of ys) (Rose w1 w2) (Rose w0 w2) w (λ rose. rose_behind w0 w1 w2 l rose) stops),
+)
+both_after xs ys differ (Ok u) (Err w) last old mid new w0 w1 w2 l m (begun, stops) (same, is) =
+    subst (λ r. IsWrittenOr (xs ++ ys) old new (Rose w0 w2) r) (sym is) (
+      subst (λ x. Changes old x (HasBegun (xs ++ ys))) (sym same) (first_begun xs ys differ old mid begun),
+      subst (λ ns. IsUnwritten ns (Rose w0 w2) w) (sym (names_append xs ys)) (stop_left (names_of xs) (names_of ys) (Rose w0 w1) (Rose w0 w2) w (λ rose. rose_before w0 w1 w2 m rose) stops),
+    )
 
 -- what is left outside
 pub leaves : (files : Outputs) (text : List ℕ) (full status : ℕ) (old now : World) (written : Result (Unit {0}) Unwritten) → IsWrittenOr files old.files now.files (Rose old.writing now.writing) written

@@ -1,19 +1,15 @@
 -- A plan's scripts can be run by workers on new tables.
-use Rattle.std.proofs.Common.{zero, suc, ◌≡◌, ◌≢◌, ◌<◌, ◌≤◌, ◌+◌, ◌-◌, ◌*◌, ◌^◌, ℕ, Bool, true, false, cond, List, [], ◌∷◌, ◌++◌, length, get_or, Option, Some, None, refl, sym, ◌∙◌, ap, subst, arith, ◌||◌, All, find, map, fold, filter_map, bytes_eq, IsSome}
-use Rattle.snap_prelude.proofs.Common.{flat_map-cons, length-append, length-map}
-use Rattle.snap_prelude.proofs.Common.{list_any, nat_tests, option_to_list}
+use Rattle.std.proofs.Common.{zero, suc, ◌≡◌, ◌<◌, ◌≤◌, ◌+◌, ℕ, Bool, true, false, cond, List, [], ◌∷◌, ◌++◌, length, get_or, Option, Some, None, refl, sym, ◌∙◌, ap, subst, arith, ◌||◌, All, find, map, fold, filter_map, bytes_eq, IsSome}
+use Rattle.snap_prelude.proofs.Common.{flat_map-cons, length-append, length-map, list_any, nat_tests, option_to_list}
 use Rattle.std.specs.List.{cons_option, position_or_len}
 use Rattle.snap_prelude.specs.{Command, Pairs}
-use Rattle.snap_text.specs.Grammar.{HasValueInRange}
-use Rattle.snap_text.specs.LoadFiles.{Loads, HasFile, file_of, pairs_of}
-use Rattle.snap_text.specs.declared.script.Line.{Line}
-use Rattle.snap_service.specs.Prelude.{FitsValue, place_of}
-use Rattle.snap_service.proofs.Scripts.{script_can_run}
-use Rattle.snap_service.proofs.Slots.{AllServed, IsServed}
-use Rattle.snap_crew.specs.Prelude.{commands_of, IsTask}
-use Rattle.snap_plan.specs.Needs.{all_commands, among, load_in, main_table, table_in, with_name}
-use Rattle.snap_plan.specs.Runnable.{AllInRange, IsRunnable}
-use Rattle.snap_plan.specs.declared.plan.Plan.{Plan}
+use Rattle.snap_text.specs.{Grammar.HasValueInRange, LoadFiles.file_of, LoadFiles.HasFile, LoadFiles.Loads}
+use Rattle.snap_text.specs.{LoadFiles.pairs_of, declared.script.Line.Line, Numbers.FitsValue}
+use Rattle.snap_service.specs.Prelude.{table_place}
+use Rattle.snap_service.proofs.{Scripts.script_can_run, Slots.AllServed, Slots.IsServed}
+use Rattle.snap_crew.specs.Prelude.{script_commands, IsTask}
+use Rattle.snap_plan.specs.{Needs.all_commands, Needs.among, Needs.load_in, Needs.main_table, Needs.table_in}
+use Rattle.snap_plan.specs.{Needs.with_name, Runnable.AllInRange, Runnable.IsRunnable, declared.plan.Plan.Plan}
 use Rattle.snap_plan.proofs.Names.{among-push, bytes_same}
 
 or_true : (b : Bool) → (b || true) ≡ true
@@ -78,7 +74,7 @@ placed p (x ∷ xs) is = either (p x) refl is (λ rest. placed p xs rest)
     either true here is below = rw here (omega arith)
     either false here is below = let rest : position_or_len p xs < length xs = below is in omega (arith, position-step p x xs here, rest)
 
-pub has_place : (names : List (List ℕ)) (name : List ℕ) → among names name ≡ true → IsSome (place_of names name)
+pub has_place : (names : List (List ℕ)) (name : List ℕ) → among names name ≡ true → IsSome (table_place names name)
 has_place names name is = let within = placed (λ known. bytes_eq known name) names is in grind (arith, nat_tests)
 
 pub has_file : (loads : Loads) (name : List ℕ) → among (map (λ file. file.0) loads) name ≡ true → HasFile loads name
@@ -98,10 +94,10 @@ named_right : (h : Command → Option (List ℕ)) (names : List (List ℕ)) (xs 
 named_right h names [] ys all = all
 named_right h names (x ∷ xs) ys all = named_right h names xs ys all.1
 
-named_at : (h : Command → Option (List ℕ)) (names : List (List ℕ)) (scripts : List (List Line)) (i : ℕ) (d : List Line) → i < length scripts → AllNamed h names (all_commands scripts) → AllNamed h names (commands_of (get_or scripts i d))
+named_at : (h : Command → Option (List ℕ)) (names : List (List ℕ)) (scripts : List (List Line)) (i : ℕ) (d : List Line) → i < length scripts → AllNamed h names (all_commands scripts) → AllNamed h names (script_commands (get_or scripts i d))
 named_at h names [] i d l all = absurd (omega (arith, l))
-named_at h names (x ∷ xs) zero d l all = named_left h names (commands_of x) (all_commands xs) (subst (λ (cs : List Command). AllNamed h names cs) (flat_map-cons commands_of x xs) all)
-named_at h names (x ∷ xs) (suc i) d l all = named_at h names xs i d (omega (arith, l)) (named_right h names (commands_of x) (all_commands xs) (subst (λ (cs : List Command). AllNamed h names cs) (flat_map-cons commands_of x xs) all))
+named_at h names (x ∷ xs) zero d l all = named_left h names (script_commands x) (all_commands xs) (subst (λ (cs : List Command). AllNamed h names cs) (flat_map-cons script_commands x xs) all)
+named_at h names (x ∷ xs) (suc i) d l all = named_at h names xs i d (omega (arith, l)) (named_right h names (script_commands x) (all_commands xs) (subst (λ (cs : List Command). AllNamed h names cs) (flat_map-cons script_commands x xs) all))
 
 -- what holds of all holds of the first that passes a test
 abbrev or_else : {X : Type 0} → Option X → X → X
@@ -129,8 +125,8 @@ file_fits loads name all = go (file_of loads name) refl
     go (Some x) e = found (λ (f : List ℕ × Pairs). All (λ (pair : ℕ × ℕ). FitsValue pair.1) f.1) (λ (f : List ℕ × Pairs). bytes_eq f.0 name) loads x all e
 
 -- each command of a script finds the table or the file that it names, and its value fits
-served : (names : List (List ℕ)) (loads : Loads) (lines : List Line) → AllNamed table_in names (commands_of lines) → AllNamed load_in (map (λ file. file.0) loads) (commands_of lines) → AllInRange loads
-    → All (λ (line : Line). HasValueInRange line.command) lines → AllServed names loads (commands_of lines)
+served : (names : List (List ℕ)) (loads : Loads) (lines : List Line) → AllNamed table_in names (script_commands lines) → AllNamed load_in (map (λ file. file.0) loads) (script_commands lines) → AllInRange loads
+    → All (λ (line : Line). HasValueInRange line.command) lines → AllServed names loads (script_commands lines)
 served names loads [] tables files range values = tt
 served names loads (line ∷ lines) tables files range values = (
   of_command line.command tables.0 files.0 (values 0 line (omega arith)),

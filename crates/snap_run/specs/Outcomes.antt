@@ -6,24 +6,16 @@ use Rattle.snap_fits.specs.Fits.{Fits, Front, Told}
 use Rattle.snap_io.specs.Prelude.{Changes, IfTold, Rose}
 use Rattle.snap_prelude.specs.{calls_of, Ended}
 use Rattle.snap_service.specs.Prelude.{fronts_of}
-use Rattle.snap_crew.specs.Prelude.{commands_of, IsTrue as IsTrueFront}
-use Rattle.snap_plan.specs.Endings.{IsFor, OfMade, ending_of, inputs_of}
-use Rattle.snap_plan.specs.Runnable.{IsRunnable}
-use Rattle.snap_plan.specs.Stops.{IsRefusedBy, StopsBy, status_of}
-use Rattle.snap_plan.specs.Texts.{stop_text}
-use Rattle.snap_plan.specs.declared.plan.Plan.{Plan}
-use Rattle.snap_plan.specs.declared.stop.Stop.{Stop}
+use Rattle.snap_crew.specs.Prelude.{script_commands, IsTrue as IsTrueFront}
+use Rattle.snap_plan.specs.{Endings.ending_of, Endings.inputs_of, Endings.IsFor, Endings.OfMade, Runnable.IsRunnable}
+use Rattle.snap_plan.specs.{Stops.IsRefusedBy, Stops.status_of, Stops.StopsBy, Texts.stop_text, declared.plan.Plan.Plan}
+use Rattle.snap_plan.specs.{declared.stop.Stop.Stop}
 use Rattle.snap_plan.specs.declared.stop.Stop.TheVariants as stop
-use Rattle.snap_words.specs.Words.{job_of}
-use Rattle.snap_words.specs.declared.words.Job.{Job}
-use Rattle.snap_words.specs.declared.words.Work.{Work}
-use Rattle.snap_words.specs.declared.words.Work.TheVariants.{Made}
-use Rattle.snap_words.specs.declared.words.WordsRefusal.{WordsRefusal}
+use Rattle.snap_words.specs.{Words.job_of, declared.words.Job.Job, declared.words.Work.Work}
+use Rattle.snap_words.specs.{declared.words.Work.TheVariants.Made, declared.words.WordsRefusal.WordsRefusal}
 use Rattle.snap_write.specs.Outputs.{HasBegun, HasWritten, Outputs, names_of}
-use Rattle.snap_run.specs.Files.{outputs, setting_for}
-use Rattle.snap_run.specs.Printed.{fault_text, fulls, summary}
-use Rattle.snap_run.specs.Worlds.{Adds, AddsPart, Tells, World}
-use Rattle.snap_run.specs.declared.outcome.Outcome.{Outcome}
+use Rattle.snap_run.specs.{Files.run_outputs, Files.setting_for, Printed.fault_text, Printed.fulls, Printed.summary}
+use Rattle.snap_run.specs.{Worlds.Adds, Worlds.AddsPart, Worlds.Tells, Worlds.World, declared.outcome.Outcome.Outcome}
 
 -- all files have their texts, and the summary was printed
 pub record Whole (files : Outputs) (text : List ℕ) (old now : World) : Type 0 where
@@ -65,7 +57,7 @@ pub record OnlyWorkers (workers : ℕ) (last : Type 0) (f : Front) : Type 0 wher
 pub record IsCarried (plan : Plan) (old now : World) (o : Outcome) : Type 0 where
   pub told : List (List Told)
   pub ran : map (λ (ts : List Told). map (λ (t : Told). t.command) ts) told
-      ≡ map commands_of plan.scripts
+      ≡ map script_commands plan.scripts
   pub a_front_each : length o.fronts ≡ length plan.tables
   pub true_fronts : (t : ℕ) (d : Ended) → t < length o.fronts
       → IsTrueFront plan.rows (slice_index_or o.fronts t d)
@@ -73,7 +65,7 @@ pub record IsCarried (plan : Plan) (old now : World) (o : Outcome) : Type 0 wher
       → OnlyWorkers (length plan.scripts) ((t ≡ 0) × (plan.last ≢ None)) (fronts_of o.fronts t)
   pub fits : (w : ℕ) (d : List Told) → w < length told
       → Fits (setting_for plan) w (fronts_of o.fronts) (slice_index_or told w d)
-  pub left : Leaves o.status (fulls told) (outputs plan told o.fronts)
+  pub left : Leaves o.status (fulls told) (run_outputs plan told o.fronts)
       (summary plan told o.fronts) old now
 
 -- the statuses of a plan that was carried out

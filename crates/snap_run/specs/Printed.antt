@@ -1,5 +1,5 @@
 -- What a run prints once it was carried out.
-use Rattle.std.specs.Prelude.{◌≡◌, ◌+◌, ℕ, List, [], ◌∷◌, ◌++◌, codes, decimal, length}
+use Rattle.std.specs.Prelude.{◌+◌, ℕ, List, [], ◌∷◌, ◌++◌, codes, decimal, length}
 use Rattle.snap_fits.specs.Fits.{Told}
 use Rattle.snap_prelude.specs.{Ended}
 use Rattle.snap_crew.specs.Prelude.{fulls_of}

@@ -1,16 +1,15 @@
-//! A plan is carried out: reply files are made, the scripts run, and what they came to is written and told.
-ghost use Rattle.std.specs.Prelude.{◌≡◌, ◌≢◌, ◌≤◌, None, [], IfOk, IfSome, OnErr, length};
+//! A plan is carried out: reply files are made, the scripts run while what they come to is written, the final file
+//! follows, and what the run came to is told.
+ghost use Rattle.std.specs.Prelude.{◌≡◌, ◌≢◌, None, [], IfOk, IfSome, OnErr, length};
 ghost use Rattle.snap_io.specs.Prelude.{Changes, Rose};
 ghost use Rattle.snap_plan.specs.Runnable.{IsRunnable};
-ghost use Rattle.snap_run.specs.Files.{KeepsOthers, names_written};
-ghost use Rattle.snap_run.specs.Outcomes.{HasEnded, IsCarried};
-ghost use Rattle.snap_run.specs.Printed.{memory_text};
-ghost use Rattle.snap_run.specs.Worlds.{Tells, world};
+ghost use Rattle.snap_run.specs.{Files.KeepsOthers, Files.names_written, Outcomes.HasEnded, Outcomes.IsCarried};
+ghost use Rattle.snap_run.specs.{Printed.memory_text, Worlds.Tells, Worlds.world};
 
 use crate::outcome::Outcome;
-use crate::replies::{create_replies, write_if_made};
+use crate::replies::{create_replies, reply_names, write_last_after};
 use crate::reporting::report;
-use snap_crew::{Task, run_scripts};
+use snap_crew::{Finished, Task, run_scripts};
 use snap_io::{Shelf, Sink, Turn};
 use snap_model::OutOfMemory;
 use snap_plan::Plan;
@@ -91,10 +90,17 @@ fn complete<R: Threads + Wait + Sync, S: Shelf, K: Sink, T: Turn + Sync>(
         scripts: plan.scripts.list(),
         tables: plan.tables.list(),
         loads: &plan.loads,
+        replies: reply_names(&plan.replies),
         rows: plan.rows,
         last: plan.last.is_some(),
     };
-    let finished = run_scripts(rt, alloc, &task, turn)?;
-    let written = write_if_made(alloc, shelf, plan, &finished, made);
-    report(alloc, plan, finished, written, sink)
+    let finished = run_scripts(rt, alloc, &task, turn, shelf, made)?;
+    let Finished {
+        fulls,
+        written,
+        fronts,
+        last,
+    } = finished;
+    let written = write_last_after(alloc, shelf, &plan.last, &last, written);
+    report(alloc, plan, &fulls, fronts, written, sink)
 }

@@ -1,13 +1,11 @@
 //! What a run that was carried out tells: its summary, or the file that could not be written.
-ghost use Rattle.std.specs.Prelude.{◌≡◌, ◌≢◌, ◌≤◌, ◌⊎◌, ◌<◌, ◌++◌, ◌^◌, IfOk, OnErr, length};
+ghost use Rattle.std.specs.Prelude.{◌≡◌, ◌≢◌, ◌⊎◌, ◌<◌, ◌++◌, ◌^◌, IfOk, OnErr, length};
 ghost use Rattle.snap_io.specs.Prelude.{Rose};
-ghost use Rattle.snap_run.specs.Printed.{fault_text, first_line, table_lines};
+ghost use Rattle.snap_run.specs.{Printed.fault_text, Printed.first_line, Printed.table_lines, Worlds.Tells};
 ghost use Rattle.snap_run.specs.Reports.{IsReported, IsSummed, fulls_in, lines_in, summary_in};
-ghost use Rattle.snap_run.specs.Worlds.{Tells};
 
 use crate::outcome::Outcome;
 use crate::summary::{Counts, fault_text, summary_text};
-use snap_crew::{Answers, Finished};
 use snap_io::Sink;
 use snap_model::{Name, OutOfMemory};
 use snap_plan::Plan;
@@ -20,29 +18,25 @@ use std::alloc::Global;
 pub fn report<K: Sink>(
     alloc: Global,
     plan: &Plan,
-    finished: Finished,
+    fulls: &[u64],
+    fronts: Fronts,
     written: Result<(), Unwritten>,
     sink: &mut K,
 ) -> Result<Outcome, OutOfMemory>
-    requires a_front_each { length finished.fronts ≡ length plan.now.tables }
+    requires a_front_each { length fronts ≡ length plan.now.tables }
     requires few_commands { lines_in plan.now.scripts < 2 ^ 63 }
-    requires few_full { fulls_in finished.answers.items < 2 ^ 63 }
-    ensures fronts { IfOk result (λ outcome. outcome.fronts ≡ finished.fronts) }
+    requires few_full { fulls_in fulls.now < 2 ^ 63 }
+    ensures fronts { IfOk result (λ outcome. outcome.fronts ≡ fronts) }
     ensures told { IfOk result
         (λ outcome. IsReported (K.written sink.old) (K.written sink.new)
         (Rose (K.faults sink.old) (K.faults sink.new))
-        (summary_in plan.now.scripts finished.answers.items plan.now.tables finished.fronts)
-        (fulls_in finished.answers.items) written outcome.status) }
+        (summary_in plan.now.scripts fulls.now plan.now.tables fronts)
+        (fulls_in fulls.now) written outcome.status) }
     ensures silent { OnErr result (sink.new ≡ sink.old) }
 {
-    let Finished {
-        answers,
-        fronts,
-        last: _,
-    } = finished;
     match written {
         Ok(()) => {
-            let counts = counts_of(plan.scripts.list(), &answers);
+            let counts = counts_of(plan.scripts.list(), fulls);
             sum_up(alloc, &counts, plan.tables.list(), fronts, sink)
         }
         Err(Unwritten::File { file }) => tell_fault(alloc, &file, fronts, sink),
@@ -105,17 +99,17 @@ fn tell_fault<K: Sink>(
 }
 
 // How many scripts and commands were run, and how many of the replies are full.
-fn counts_of(scripts: &[Script], answers: &[Answers]) -> Counts
+fn counts_of(scripts: &[Script], fulls: &[u64]) -> Counts
     requires few_commands { lines_in scripts.now < 2 ^ 63 }
-    requires few_full { fulls_in answers.now < 2 ^ 63 }
+    requires few_full { fulls_in fulls.now < 2 ^ 63 }
     ensures scripts { result.scripts ≡ length scripts.now }
     ensures commands { result.commands ≡ lines_in scripts.now }
-    ensures full { result.full ≡ fulls_in answers.now }
+    ensures full { result.full ≡ fulls_in fulls.now }
 {
     Counts {
         scripts: scripts.len() as u64,
         commands: commands_in(scripts),
-        full: full_in(answers),
+        full: full_in(fulls),
     }
 }
 
@@ -130,13 +124,13 @@ fn commands_in(scripts: &[Script]) -> u64
     commands
 }
 
-fn full_in(answers: &[Answers]) -> u64
-    requires { fulls_in answers.now < 2 ^ 63 }
-    ensures { result ≡ fulls_in answers.now }
+fn full_in(fulls: &[u64]) -> u64
+    requires { fulls_in fulls.now < 2 ^ 63 }
+    ensures { result ≡ fulls_in fulls.now }
 {
     let mut full = 0;
-    for one in answers {
-        full += one.full;
+    for one in fulls {
+        full += *one;
     }
     full
 }

@@ -1,14 +1,10 @@
 //! The top call: from the command line to the status.
-ghost use Rattle.std.specs.Prelude.{◌≡◌, ◌≢◌, ◌≤◌, ◌⊎◌, [], map, IsErr};
+ghost use Rattle.std.specs.Prelude.{◌≡◌, ◌≢◌, ◌⊎◌, [], map, IsErr};
 ghost use Rattle.std.specs.String.{string_bytes};
 ghost use Rattle.snap_io.specs.Prelude.{Changes, IfTold, Rose};
-ghost use Rattle.snap_plan.specs.Endings.{OfMade, ending_of};
-ghost use Rattle.snap_plan.specs.Stops.{status_of};
-ghost use Rattle.snap_plan.specs.Texts.{stop_text};
-ghost use Rattle.snap_run.specs.Files.{KeepsOthers, names_given};
+ghost use Rattle.snap_plan.specs.{Endings.ending_of, Endings.OfMade, Stops.status_of, Texts.stop_text};
+ghost use Rattle.snap_run.specs.{Files.KeepsOthers, Files.names_given, Printed.memory_text, Worlds.Tells, Worlds.world};
 ghost use Rattle.snap_run.specs.Outcomes.{HasStatus, IsGood, IsStatus, IsUnneeded};
-ghost use Rattle.snap_run.specs.Printed.{memory_text};
-ghost use Rattle.snap_run.specs.Worlds.{Tells, world};
 ghost use Rattle.snap_words.specs.Words.{job_of};
 
 use crate::carrying::carry_out;

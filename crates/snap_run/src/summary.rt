@@ -1,6 +1,5 @@
 //! The texts that are told once the scripts have run.
-ghost use Rattle.std.specs.Prelude.{◌≡◌, ◌≤◌, ◌++◌, IfOk, length};
-ghost use Rattle.std.specs.String.{string_bytes};
+ghost use Rattle.std.specs.{Prelude.◌++◌, Prelude.◌≡◌, Prelude.IfOk, Prelude.length, String.string_bytes};
 ghost use Rattle.snap_run.specs.Printed.{fault_text, first_line, table_line, table_lines};
 
 use snap_model::{Name, OutOfMemory};

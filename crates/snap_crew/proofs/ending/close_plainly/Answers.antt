@@ -1,6 +1,5 @@
 use Rattle.snap_service.proofs.Admitting.{uncut_callers}
-use Rattle.snap_crew.proofs.Closing.{no_cut}
-use Rattle.snap_crew.proofs.Speaking.{fits_if}
+use Rattle.snap_crew.proofs.{Closing.no_cut, Speaking.fits_if}
 use Rattle.snap_crew.proofs.ending.close_plainly.Goals as goal
 
 pub returns : goal.returns

@@ -1,5 +1,4 @@
-use Rattle.snap_crew.proofs.Closing.{text_is}
-use Rattle.snap_crew.proofs.Speaking.{fits_if}
+use Rattle.snap_crew.proofs.{Closing.text_is, Speaking.fits_if}
 use Rattle.snap_crew.proofs.ending.close_with_text.Goals as goal
 
 pub returns : goal.returns

@@ -1,5 +1,4 @@
-use Rattle.snap_crew.proofs.Ended.{if_ended, is_end}
-use Rattle.snap_crew.proofs.Speaking.{all_speak}
+use Rattle.snap_crew.proofs.{Ended.if_ended, Ended.is_end, Speaking.all_speak}
 use Rattle.snap_crew.proofs.ending.end_run.Goals as goal
 
 pub close_with_text-requires-clause-all : goal.close_with_text-requires-clause-all

@@ -1,9 +1,9 @@
-use Rattle.std.proofs.Common.{◌≡◌, ◌<◌, ◌+◌, List, [], ◌∷◌, ◌++◌, length, sym, ap, subst, ◌∙◌, arith, slice_index_or}
+use Rattle.std.proofs.Common.{◌≡◌, ◌<◌, List, [], length, sym, ap, subst, ◌∙◌, arith, slice_index_or}
 use Rattle.snap_prelude.specs.{Known}
 use Rattle.snap_text.specs.declared.script.Line.{Line}
-use Rattle.snap_service.specs.Prelude.{AreSeated, new_kit, opened}
+use Rattle.snap_service.specs.Prelude.{AreSeated, new_kit, new_session}
 use Rattle.snap_service.proofs.Ending.{fewer_is, last_is, one_less}
-use Rattle.snap_crew.specs.Prelude.{commands_of, IsJob, Job}
+use Rattle.snap_crew.specs.Prelude.{script_commands, IsJob, Job}
 use Rattle.snap_prelude.proofs.Common.{length_push}
 use Rattle.snap_crew.proofs.Beginning.{can_work, mirror_next, new_seated, place_is, straight}
 use Rattle.snap_crew.proofs.jobs.open_jobs.Goals as goal
@@ -27,17 +27,17 @@ loop-kit-preserved c =
     record {
       left = fewer_is c.args.kits.items c.loop-kit.left.items fewer kit v.left c.in-Some.ensures.items;
       all = omega (arith, ap length c.in_ok-push.ensures.items, length_push c.loop-kit.jobs.items job, one, v.all);
-      jobs = λ d. mirror_next (length c.args.kits.items) c.loop-kit.jobs.items c.push.new.self.items (λ i x. IsJob c.args.loads.now c.args.service.now (commands_of (slice_index_or scripts i d)) i x)
+      jobs = λ d. mirror_next (length c.args.kits.items) c.loop-kit.jobs.items c.push.new.self.items (λ i x. IsJob c.args.loads.now c.args.service.now (script_commands (slice_index_or scripts i d)) i x)
           (length c.loop-kit.left.items) (length fewer) job one v.all c.in_ok-push.ensures.items
           (record {
             who_is = here;
-            commands_are = ap commands_of (script d);
-            on = c.in-Ok.ensures.ok ∙ ap (λ (k : List Known). opened c.args.service.now k) is;
-            can = can_work c.args.loads.now c.args.service.now (length fewer) kit c.in-Ok.session (commands_of (slice_index_or scripts (length fewer) d)) is c.in-Ok.ensures.ok c.in-Ok.ensures.begins (c.requires.scripts (length fewer) d within);
+            commands_are = ap script_commands (script d);
+            on = c.in-Ok.ensures.ok ∙ ap (λ (k : List Known). new_session c.args.service.now k) is;
+            can = can_work c.args.loads.now c.args.service.now (length fewer) kit c.in-Ok.session (script_commands (slice_index_or scripts (length fewer) d)) is c.in-Ok.ensures.ok c.in-Ok.ensures.begins (c.requires.scripts (length fewer) d within);
           }) (v.jobs d);
     }
 
 pub returns-clause-each : goal.returns-clause-each
 returns-clause-each c = let v = c.loop-kit.invariant in let none = c.in_default.ensures in λ i d e l.
-    straight (length c.args.kits.items) c.loop-kit.jobs.items c.reverse.new.self.items (λ k job. IsJob c.args.loads.now c.args.service.now (commands_of (slice_index_or c.args.scripts.now k d)) k job)
+    straight (length c.args.kits.items) c.loop-kit.jobs.items c.reverse.new.self.items (λ k job. IsJob c.args.loads.now c.args.service.now (script_commands (slice_index_or c.args.scripts.now k d)) k job)
     (omega (arith, v.all, none.cases.0, c.loop-kit.left.ok.0)) c.reverse.ensures.items (v.jobs d) i e (omega (arith, l, c.requires.a_kit_each))

@@ -3,10 +3,8 @@ use Rattle.std.proofs.Common.{List, Option, ℕ, ap, inr, map, subst, ◌∙◌}
 use Rattle.snap_io.specs.Prelude.{Changes, Files}
 use Rattle.snap_plan.specs.Endings.{ending_of}
 use Rattle.snap_words.specs.Words.{job_of}
-use Rattle.snap_run.specs.Worlds.{world}
-use Rattle.snap_run.specs.Files.{KeepsOthers, names_written}
-use Rattle.snap_run.proofs.Kept.{kept_given, same_given}
-use Rattle.snap_run.proofs.Ended.{carried_by, of_made, stop_status}
+use Rattle.snap_run.specs.{Worlds.world, Files.KeepsOthers, Files.names_written}
+use Rattle.snap_run.proofs.{Kept.kept_given, Kept.same_given, Ended.carried_by, Ended.of_made, Ended.stop_status}
 use Rattle.snap_run.proofs.running.run.Goals as goal
 
 pub returns-in-Ok-clause-good : goal.returns-in-Ok-clause-good
@@ -18,7 +16,7 @@ returns-in-Ok-clause-good g c = λ enough.
       of_words = record { asked = c.in-Ok.ensures.asked; runnable = c.in-Ok.ensures.runnable; gives = c.in-Ok.ensures.plan; made = of_made (job_of ws) _ _ (λ made both. both.1) c.in-Ok.ensures.made };
       carried = carried_by (g.S.Shelf.files c.args.shelf.now) (g.S.Shelf.files c.accept.new.shelf) (g.K.Sink.written c.args.sink.now) (g.S.Shelf.read_faults c.args.shelf.now) (g.S.Shelf.read_faults c.accept.new.shelf)
           (g.S.Shelf.write_faults c.args.shelf.now) (g.S.Shelf.write_faults c.accept.new.shelf) (g.K.Sink.faults c.args.sink.now) now c.in-Ok.plan c.carry_out.result
-          c.accept.ensures.files c.accept.ensures.writes (c.carry_out.ensures.carried enough);
+          c.accept.ensures.only_reads.same_files c.accept.ensures.only_reads.same_writes (c.carry_out.ensures.carried enough);
     })
 
 pub returns-in-Err-clause-status : goal.returns-in-Err-clause-status
@@ -33,10 +31,10 @@ pub returns-in-Ok-clause-kept : goal.returns-in-Ok-clause-kept
 returns-in-Ok-clause-kept g c =
     let ws : List (List ℕ) = map string_bytes c.args.words.now in
     kept_given (ending_of ws) c.in-Ok.plan (g.S.Shelf.files c.args.shelf.now) (g.S.Shelf.files c.carry_out.new.shelf) c.in-Ok.ensures.plan
-    (subst (λ (x : Option Files). Changes x (g.S.Shelf.files c.carry_out.new.shelf) (KeepsOthers (names_written c.in-Ok.plan))) c.accept.ensures.files c.carry_out.ensures.kept)
+    (subst (λ (x : Option Files). Changes x (g.S.Shelf.files c.carry_out.new.shelf) (KeepsOthers (names_written c.in-Ok.plan))) c.accept.ensures.only_reads.same_files c.carry_out.ensures.kept)
 
 pub returns-in-Err-clause-kept : goal.returns-in-Err-clause-kept
-returns-in-Err-clause-kept g c = same_given (ending_of (map string_bytes c.args.words.now)) (g.S.Shelf.files c.args.shelf.now) (g.S.Shelf.files c.accept.new.shelf) c.accept.ensures.files
+returns-in-Err-clause-kept g c = same_given (ending_of (map string_bytes c.args.words.now)) (g.S.Shelf.files c.args.shelf.now) (g.S.Shelf.files c.accept.new.shelf) c.accept.ensures.only_reads.same_files
 
 pub returns-in-Ok-clause-reads : goal.returns-in-Ok-clause-reads
 returns-in-Ok-clause-reads g c =
