@@ -62,7 +62,7 @@ one_linked old new parent d copy c = record {
 
 -- with the keys of its copies as they were
 abbrev with_copies : Known → View → List ℕ → Known
-with_copies k w l = record { table = k.table; view = record (stayed k w).view { fresh = record w.fresh { copies = l } } }
+with_copies k w l = record { table = k.table; view = record (stayed k w).view { fresh = record (stayed k w).view.fresh { copies = l } } }
 
 stays_mended : (old new : Known) (changed : ℕ → Field → Type 0) → ChangesOnly old new None changed → new ≡ mended old new.view
 stays_mended old new changed s =

@@ -3,6 +3,7 @@ use Rattle.std.specs.Prelude.{◌≡◌, ◌≢◌, ◌≤◌, ℕ, true, false}
 use Rattle.snap_prelude.specs.{Among, Becomes, Field, Grows, HasWord, IsCopy, IsKnown, KeepsLasting}
 use Rattle.snap_prelude.specs.{KeepsPresent, KeepsReached, Known, link_field, no_more_notes, read}
 use Rattle.snap_prelude.specs.{same_field, same_present, same_rows, Side, View}
+use Rattle.snap_prelude.specs.{any_trail}
 
 -- what the pass knew it still knows, and it holds the same rows, at the same place
 pub record Keeps (v w : View) : Type 0 where
@@ -35,7 +36,7 @@ filled k w =
     record {
       table = k.table;
       view = record k.view {
-        trail = w.trail;
+        trail = any_trail k.view.trail w.trail;
         words = same_present k.view.words w.words;
         noted = no_more_notes k.view.noted w.noted;
         fresh = same_rows k.view.fresh w.fresh;

@@ -5,6 +5,7 @@ use Rattle.snap_prelude.specs.{Among, Birth, copied, copies_for, Field, Grows, I
 use Rattle.snap_prelude.specs.{IsOlder, KeepsLasting, KeepsPresent, KeepsReached, Known, link_field}
 use Rattle.snap_prelude.specs.{Next, NotesMore, removed, SeesMore, Side, View, WordNote}
 use Rattle.snap_search.specs.Prelude.{worked, Works}
+use Rattle.snap_prelude.specs.{any_notes, any_rows, any_trail, any_words}
 
 -- the child below the held row is of this epoch already. The pass went on with its work, which left
 -- these notes
@@ -18,7 +19,13 @@ pub record IsOwn (old new : Known) (notes : List WordNote) (at : Wanted) (child 
 -- the pass with what another view has of its work, and of the rows that it drew
 abbrev pub with_copy : Known → View → Known
 with_copy k w =
-    record { table = k.table; view = record (worked k w).view { drawn = w.drawn; fresh = w.fresh } }
+    record {
+      table = k.table;
+      view = record (worked k w).view {
+        drawn = w.drawn;
+        fresh = any_rows k.view.fresh w.fresh;
+      };
+    }
 
 -- the link led to a child of an earlier epoch, and a row that was drawn for it has taken its place:
 -- the pass had stored in it that child's key, value, height and links, and the epoch as its birth,
@@ -67,8 +74,13 @@ abbrev pub stayed : Known → View → Known
 stayed k w =
     record {
       table = k.table;
-      view = record k.view
-          { trail = w.trail; noted = w.noted; words = w.words; fresh = w.fresh; drawn = w.drawn };
+      view = record k.view {
+        trail = any_trail k.view.trail w.trail;
+        noted = any_notes k.view.noted w.noted;
+        words = any_words k.view.words w.words;
+        fresh = any_rows k.view.fresh w.fresh;
+        drawn = w.drawn;
+      };
     }
 
 -- nothing else of the pass changed, and what it knew it still knows, but of some words. Without a

@@ -70,6 +70,7 @@ pub use Rattle.snap_steps.specs.Steps.Way.{begun_again, BoundAt, comes_to, ends_
 pub use Rattle.snap_steps.specs.Steps.Way.{HasBound, last_point, next_point, now_confirmed, place_by, read_on}
 pub use Rattle.snap_steps.specs.Steps.Way.{set_out_for, settled_at}
 pub use Rattle.snap_steps.specs.Steps.Writes.{call_of, entry_of, hung, IsLeaf, IsLeafPlace, made_entry, stored}
+pub use Rattle.snap_steps.specs.Work.{any_notes, any_rows, any_trail, any_way, any_words}
 pub use Rattle.snap_steps.specs.Work.{Grows, held_words, KeepsLasting, KeepsPresent, KeepsReached, no_more_epochs}
 pub use Rattle.snap_steps.specs.Work.{no_more_notes, no_more_reached, no_more_words, NotesMore, same_copies, same_end}
 pub use Rattle.snap_steps.specs.Work.{same_present, same_rows, SeesMore}

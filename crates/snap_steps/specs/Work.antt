@@ -16,6 +16,25 @@ use Rattle.snap_steps.specs.declared.view.View.{View}
 use Rattle.snap_steps.specs.declared.view.WordNote.{WordNote}
 use Rattle.snap_steps.specs.declared.view.Words.{Words}
 
+-- with other notes, at another point of a way, with other steps behind it, with other words of rows,
+-- and with other rows of its own: with whatever a call may change of that part
+abbrev pub any_notes : Noted → Noted → Noted
+any_notes v w =
+    record v { notes = w.notes; handed = w.handed; epochs = w.epochs; worn = w.worn }
+
+abbrev pub any_way : Route → Route → Route
+any_way v w = record v { reads = w.reads; confirmed = w.confirmed; place = w.place }
+
+abbrev pub any_trail : Trail → Trail → Trail
+any_trail v w = record v { reached = w.reached; steps = w.steps }
+
+abbrev pub any_words : Words → Words → Words
+any_words v w = record v
+    { knows = w.knows; refused = w.refused; lasting = w.lasting; present = w.present }
+
+abbrev pub any_rows : Fresh → Fresh → Fresh
+any_rows v w = record v { own = w.own; wrote = w.wrote; copies = w.copies }
+
 -- without a note more
 abbrev pub no_more_notes : Noted → Noted → Noted
 no_more_notes v w = record v { worn = w.worn }

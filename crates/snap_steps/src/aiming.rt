@@ -1,5 +1,5 @@
-//! Where the to-do key of a pass moves: up from a settled row to its parent, or to a row at which nothing that is owed is
-//! lost; and where it goes, since the one row that is owed is settled. Each is a load that changes no word.
+//! Where the to-do key of a pass moves: up from a settled row to its parent, or to a row at which nothing that is owed
+//! is lost; and where it goes, since the one row that is owed is settled. Each is a load that changes no word.
 ghost use Rattle.std.specs.Prelude.{◌≡◌, ◌≤◌, ℕ, Some};
 ghost use Rattle.snap_rule.specs.declared.change.Doing.TheVariants.{Nothing};
 ghost use Rattle.snap_stamp.specs.declared.layout.Field.TheVariants.{Key};
@@ -166,9 +166,9 @@ fn aim_told<J: Aiming>(rows: &Rows, pass: &mut Pass, row: RowNo, key: Key)
     pass.owed = owed;
 }
 
-/// The to-do key comes to be that of a held row, `key`, where nothing that is owed is lost: it is that already; or the row
-/// is the last of this epoch on its way; or it is that of the row's parent, which is held too. At row 0 nothing is left to
-/// do.
+/// The to-do key comes to be that of a held row, `key`, where nothing that is owed is lost: it is that already; or the
+/// row is the last of this epoch on its way; or it is that of the row's parent, which is held too. At row 0 nothing is
+/// left to do.
 pub fn aim(rows: &Rows, pass: &mut Pass, row: RowNo, key: Key)
     requires table { IsOf pass.old rows.now }
     requires row { row ≤ rows.now.rows }

@@ -51,10 +51,10 @@ pub fn load_shared(rows: &Rows, pass: &mut Pass, row: RowNo, field: Field) -> u6
     rows.table.shared.load::<LoadShared>(&mut pass.seat, word)
 }
 
-/// Links a row of the pass, which is a copy of the child in this epoch, in the child's place. The parent is held. Either
-/// it is the place that the search of this write found for the key, and the write has no entry yet; or there is no key,
-/// and the pass holds a row of which one side is higher by two at least: the parent is that row and the side the higher
-/// one, or its child there and the side the other one. The map stays as it is.
+/// Links a row of the pass, which is a copy of the child in this epoch, in the child's place. The parent is held.
+/// Either it is the place that the search of this write found for the key, and the write has no entry yet; or there is
+/// no key, and the pass holds a row of which one side is higher by two at least: the parent is that row and the side
+/// the higher one, or its child there and the side the other one. The map stays as it is.
 pub fn link_copy(
     rows: &Rows,
     pass: &mut Pass,

@@ -1,5 +1,5 @@
-//! Seats that are cut in two and joined: notes from one pass to another, seats of clones that are given back, and passes
-//! that end.
+//! Seats that are cut in two and joined: notes from one pass to another, seats of clones that are given back, and
+//! passes that end.
 ghost use Rattle.std.specs.Prelude.{◌≡◌};
 ghost use Rattle.snap_model.specs.History.{Begins};
 ghost use Rattle.snap_steps.specs.Copies.{TakesBack};
@@ -71,8 +71,8 @@ pub fn learn(rows: &Rows, pass: &mut Pass, note: Note)
     rows.table.shared.load::<Sure>(&mut pass.seat, 0);
 }
 
-/// Gives the seat of a clone back: the pass then knows of a stamp at its greatest count that the seat noted. It has seen
-/// what it and the clone's base had, which is nothing more for the pass that has cut the clone.
+/// Gives the seat of a clone back: the pass then knows of a stamp at its greatest count that the seat noted. It has
+/// seen what it and the clone's base had, which is nothing more for the pass that has cut the clone.
 pub fn take_back(rows: &Rows, pass: &mut Pass, view: ViewSeat)
     requires pass { IsOf pass.old rows.now }
     requires view { view.table ≡ pass.old.table }

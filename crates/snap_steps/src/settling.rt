@@ -153,8 +153,8 @@ fn to_do_or(to_do: Option<Key>, key: Key) -> Option<Key>
     }
 }
 
-/// Stores the right height of a held row: one more than the larger of the two below it. The parent may be unsettled then,
-/// so it is listed, and where there is no to-do key it comes to be the row's, which is `key`.
+/// Stores the right height of a held row: one more than the larger of the two below it. The parent may be unsettled
+/// then, so it is listed, and where there is no to-do key it comes to be the row's, which is `key`.
 pub fn store_height(
     rows: &Rows,
     pass: &mut Pass,

@@ -92,8 +92,8 @@ fn unlink_placed<J: Leaving>(
 }
 
 /// Sets the unlinked mark of a held row without a value and with one child at most, by which it leaves the tree.
-/// `stamp` is its stamp, `only` its one child or 0, and `parent_key` the parent's key, which is the to-do key then. Where
-/// the parent is row 0 nothing is left to do.
+/// `stamp` is its stamp, `only` its one child or 0, and `parent_key` the parent's key, which is the to-do key then.
+/// Where the parent is row 0 nothing is left to do.
 pub fn mark_unlinked(
     rows: &Rows,
     pass: &mut Pass,

@@ -49,7 +49,8 @@ fn set_out_keyed<J: Saying>(rows: &Rows, pass: &mut Pass, key: Key) -> u64
     requires key { key ≡ J.key }
     requires table { IsOf pass.old rows.now }
     ensures { (seen : _) × Extends pass.old.view seen × (result ≤ length seen)
-        × Becomes pass.old pass.new (set_out_for (word_noted pass.old.view (Done result)) seen J.key) }
+        × Becomes pass.old pass.new
+        (set_out_for (word_noted pass.old.view (Done result)) seen J.key) }
 {
     let _key = key;
     rows.table.shared.load::<SetOut<J>>(&mut pass.seat, 3)
@@ -59,7 +60,8 @@ fn set_out_keyed<J: Saying>(rows: &Rows, pass: &mut Pass, key: Key) -> u64
 pub fn set_out(rows: &Rows, pass: &mut Pass, key: Key) -> u64
     requires { IsOf pass.old rows.now }
     ensures { (seen : _) × Extends pass.old.view seen × (result ≤ length seen)
-        × Becomes pass.old pass.new (set_out_for (word_noted pass.old.view (Done result)) seen key) }
+        × Becomes pass.old pass.new
+        (set_out_for (word_noted pass.old.view (Done result)) seen key) }
 {
     set_out_keyed::<Brand>(rows, pass, key)
 }

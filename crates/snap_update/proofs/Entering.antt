@@ -5,6 +5,7 @@ use Rattle.snap_prelude.specs.{all_noted, Becomes, Begins, Call, calls_of, drew,
 use Rattle.snap_prelude.specs.{HasDrawn, hung, IsLegal, Known, locked, made_entry, no_more_reached, notes_of, Put}
 use Rattle.snap_prelude.specs.{removed, same_rows, SeesMore, stored, times, unlocked, View, WordNote}
 use Rattle.snap_search.proofs.{Walking.begins_on, Working.no_notes, Working.notes_on}
+use Rattle.snap_rule.specs.declared.debt.Debt.{Debt}
 use Rattle.snap_update.specs.Answers.{GoesOn, LinksWhatItDraws, Made, Writes}
 use Rattle.snap_update.specs.Held.{MakesLeaf, stored_in}
 use Rattle.snap_update.proofs.Going.{written_on, removed_added, alone_removed, goes_links, links_on}
@@ -69,10 +70,10 @@ freed old b refused row call reply w free = let m = w.made in record {
 pub writes_locked : (old a b new : Known) (row : ℕ) (call : Call) (reply : Option ℕ) → HasLocked old a row → Writes a b call reply → Becomes b new (unlocked b.view row) → old.view.holds ≡ [] → Writes old new call reply
 writes_locked old a b new row call reply h w e free = subst (λ (k : Known). Writes old k call reply) (sym e) (freed old b h.refused row call reply (subst (λ (k : Known). Writes k b call reply) h.is w) free)
 
--- the entry at the row that has the key: its value word was stored, or was 0
-pub stores_here : (old new : Known) (call : Call) (reply : Option ℕ) (log : List Entry) (row x : ℕ) → Enters old.view log (entry_of old.view.who call reply) → Becomes old new (stored old.view log (entry_of old.view.who call reply) row x) → Writes old new call reply
-stores_here old new call reply log row x enters e =
-    let w : View = stored old.view log (entry_of old.view.who call reply) row x in
+-- the entry is made, whatever is known of held rows then, and owed
+makes_entry : (old new : Known) (call : Call) (reply : Option ℕ) (log : List Entry) (knows : List Fact) (debt : Debt) → Enters old.view log (entry_of old.view.who call reply) → Becomes old new (record (made_entry old.view log (entry_of old.view.who call reply)) { words = record old.view.words { knows = knows }; debt = debt }) → Writes old new call reply
+makes_entry old new call reply log knows debt enters e =
+    let w : View = record (made_entry old.view log (entry_of old.view.who call reply)) { words = record old.view.words { knows = knows }; debt = debt } in
     let whole : Writes old (known old w) call reply = record {
       made = record {
         is = refl;
@@ -89,24 +90,14 @@ stores_here old new call reply log row x enters e =
       holds = refl;
     } in subst (λ (k : Known). Writes old k call reply) (sym e) whole
 
+-- the entry at the row that has the key: its value word was stored, or was 0
+pub stores_here : (old new : Known) (call : Call) (reply : Option ℕ) (log : List Entry) (row x : ℕ) → Enters old.view log (entry_of old.view.who call reply) → Becomes old new (stored old.view log (entry_of old.view.who call reply) row x) → Writes old new call reply
+stores_here old new call reply log row x =
+    let w : View = stored old.view log (entry_of old.view.who call reply) row x in
+    makes_entry old new call reply log w.words.knows w.debt
+
 pub confirms_here : (old new : Known) (call : Call) (reply : Option ℕ) (log : List Entry) → Enters old.view log (entry_of old.view.who call reply) → Becomes old new (made_entry old.view log (entry_of old.view.who call reply)) → Writes old new call reply
-confirms_here old new call reply log enters e =
-    let w : View = made_entry old.view log (entry_of old.view.who call reply) in
-    let whole : Writes old (known old w) call reply = record {
-      made = record {
-        is = refl;
-        log = log;
-        enters = enters;
-        seen = refl;
-        mine = refl;
-        stage = refl;
-        more = [];
-        noted = no_notes old.view w refl refl refl (λ h. h);
-        links = no_links old.view w refl (λ r. omega arith);
-        reached = λ r. omega arith;
-      };
-      holds = refl;
-    } in subst (λ (k : Known). Writes old k call reply) (sym e) whole
+confirms_here old new call reply log = makes_entry old new call reply log old.view.words.knows old.view.debt
 
 -- the pass once it drew the leaf, made it one, and linked it
 abbrev filled : View → List WordNote → ℕ → View → View

@@ -6,6 +6,7 @@ use Rattle.snap_prelude.specs.{Gate, In, KeepsPresent, KeepsReached, Known, Next
 use Rattle.snap_prelude.specs.{Remove, SeesMore, times, total, Trouble, View, WordNote, Writing}
 use Rattle.snap_model.specs.History.{told}
 use Rattle.snap_steps.specs.declared.view.WordNote.TheVariants.{Left, Birth}
+use Rattle.snap_prelude.specs.{any_notes, any_rows, any_trail, any_way, any_words}
 
 -- one more than the value is a word
 abbrev pub FitsWord : Call → Type 0
@@ -19,18 +20,20 @@ written k w =
     record {
       table = k.table;
       view =
-          record w {
-            rows = k.view.rows;
-            passes = k.view.passes;
-            who = k.view.who;
-            role = k.view.role;
-            cuts = k.view.cuts;
-            base = k.view.base;
-            uses = k.view.uses;
-            admitted = k.view.admitted;
-            doing = k.view.doing;
-            tries = k.view.tries;
-            joined = k.view.joined;
+          record k.view {
+            stage = w.stage;
+            seen = w.seen;
+            mine = w.mine;
+            noted = any_notes k.view.noted w.noted;
+            drawn = w.drawn;
+            outworn = w.outworn;
+            holds = w.holds;
+            words = any_words k.view.words w.words;
+            trail = any_trail k.view.trail w.trail;
+            fresh = any_rows k.view.fresh w.fresh;
+            way = any_way k.view.way w.way;
+            heights = w.heights;
+            debt = w.debt;
           };
     }
 

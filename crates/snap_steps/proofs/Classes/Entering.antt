@@ -66,7 +66,8 @@ use Rattle.snap_steps.specs.Rule.Names.{ActsAsPass}
 use Rattle.snap_steps.proofs.Parts.Worn.{worns_evolve}
 use Rattle.snap_steps.specs.declared.view.Fact.{Fact}
 
--- the view of a pass that has made the entry e, after which these are the rows that it has reached, its own rows and what it knows
+-- the view of a pass that has made the entry e, after which these are the rows that it has reached, its own rows and
+-- what it knows
 abbrev pub with_entry : View → List Entry → Entry → (reached own : List ℕ) → List Fact → List Fact → Debt → View
 with_entry v log e reached own wrote knows debt = record v { trail = record v.trail { reached = reached }; heights = []; debt = debt; way = record v.way { reads = Resting }; seen = log ++ e ∷ []; mine = v.mine ++ e ∷ []; stage = Writing true false; fresh = record v.fresh { own = own; wrote = wrote }; words = record v.words { knows = knows } }
 
