@@ -1,6 +1,6 @@
 -- The loads of a search that may begin again, on its step down from a spot.
 use Rattle.std.proofs.Common.{◌≡◌, ◌≢◌, ◌⊎◌, inl, inr, ℕ, ◌%◌, ◌≤◌, nat_lt, cond, List, [], ◌∷◌, None, refl, sym, ap, ◌∙◌, subst, arith}
-use Rattle.snap_prelude.specs.{Becomes, Confirmed, ConfirmedNone, Entry, Extends, goes_from, HasAnswer, HasBound, Known}
+use Rattle.snap_prelude.specs.{Becomes, Confirmed, Entry, Extends, goes_from, HasAnswer, HasBound, Known}
 use Rattle.snap_prelude.specs.{Left, Linked, Matched, NoLink, now_confirmed, On, place_by, Point, read_on, Reading}
 use Rattle.snap_prelude.specs.{Relinked, Resting, Right, settled_at, Stamped, Standing, Toward, value_of}
 use Rattle.snap_search.specs.Down.{Came, HasCome, IsFrom, IsLed, Passes, Strays}
@@ -30,7 +30,6 @@ leads rows s from old new key (Standing n v d) x a e h r =
       λ z. on s from old new key (Standing n v d) x a e (NoLink n v d) (none_first key n v x d z) place,
       λ ne. on s from old new key (Standing n v d) x a e (Linked n v d x) (some_first key n v x d ne) (place, child_reached old new key n v x d a.walks.at e ne),
     )
-leads rows s from old new key (NoLink n v d) x a e h r = tt
 leads rows s from old new key (Linked n v d c) x a e h r = (
   λ z. on s from old new key (Linked n v d c) x a e (Stamped n v d c x) (chosen (x % 4) 0 (On key (Stamped n v d c x)) (at_top key) z) (still s from old new key (Linked n v d c) x a e c refl a.from),
   λ ne. off s from old new key (Linked n v d c) x a e (other (x % 4) 0 (On key (Stamped n v d c x)) (at_top key) ne),
@@ -44,9 +43,7 @@ leads rows s from old new key (Relinked n v c w) x a e h r = (
       (still s from old new key (Relinked n v c w) x a e c refl a.from, ap (λ (k : Known). k.view.way.confirmed) e ∙ ap (λ (q : Reading). now_confirmed q x old.view.way.confirmed) a.walks.at ∙ chosen x v (c ∷ []) [] z),
   λ ne. off s from old new key (Relinked n v c w) x a e (other x v (On key (Confirmed c w)) (at_top key) ne),
 )
-leads rows s from old new key (Confirmed c w) x a e h r = tt
-leads rows s from old new key ConfirmedNone x a e h r = tt
-leads rows s from old new key (Matched c) x a e h r = tt
+leads rows s from old new key elsewhere x a e h r = tt
 
 -- the load of the child's key
 module _ (s : Spot) (from old new : Known) (key c w x : ℕ) (a : Came s from old key (Confirmed c w)) (e : Becomes old new (read_on old.view x)) where
@@ -71,12 +68,7 @@ leads_last s from old new key (NoLink n v d) x h a more e tells = (
   λ ne. walks_on from old new (On key (NoLink n v d)) (at_top key) a.walks (fails old new key (NoLink n v d) x h (at_top key) a.walks.at more e (other x v Resting (at_top key) ne)),
 )
 leads_last s from old new key (Matched c) x h a more e tells = ends_on from old new key (On key (Matched c)) (value_of x) a.walks (ends old new key (Matched c) x h (value_of x) a.walks.at more e refl (answer_some key c x h old.view.way.reads a.walks.at tells))
-leads_last s from old new key (Standing n v d) x h a more e tells = tt
-leads_last s from old new key (Linked n v d c) x h a more e tells = tt
-leads_last s from old new key (Stamped n v d c w) x h a more e tells = tt
-leads_last s from old new key (Relinked n v c w) x h a more e tells = tt
-leads_last s from old new key (Confirmed c w) x h a more e tells = tt
-leads_last s from old new key ConfirmedNone x h a more e tells = tt
+leads_last s from old new key elsewhere x h a more e tells = tt
 
 -- whichever check failed
 pub strayed : (old new : Known) (key : ℕ) → Strays old new key ⊎ Walks old new (at_top key) → Walks old new (at_top key)

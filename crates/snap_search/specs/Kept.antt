@@ -8,9 +8,13 @@ use Rattle.snap_prelude.specs.{Right, View}
 abbrev pub step_at : Spot → Step
 step_at s = record { row = s.row; side = s.side }
 
+-- how many steps are kept at most
+abbrev pub way_room : ℕ
+way_room = 32
+
 -- one step more, or that alone where there was no room
 abbrev pub with_step : List Step → Step → List Step
-with_step steps s = if length steps == 32 then s ∷ [] else steps ++ s ∷ []
+with_step steps s = if length steps == way_room then s ∷ [] else steps ++ s ∷ []
 
 -- at a row with the key the one above it is kept too
 abbrev pub with_above : Place → List Step → Spot → List Step

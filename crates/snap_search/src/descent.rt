@@ -1,18 +1,19 @@
 //! The way down to the place of a key, for a write and for a repair.
 ghost use Rattle.std.specs.Prelude.{◌≡◌, MatchResult};
-ghost use Rattle.snap_prelude.specs.{Among, IsOf, On, Standing};
-ghost use Rattle.snap_search.specs.{Kept.IsStep, Kept.IsWay, Kept.step_at, Places.Comes, Places.Goes, Walk.at_top};
-ghost use Rattle.snap_search.specs.{Work.IsPresent};
+ghost use Rattle.snap_prelude.specs.{Among, IsOf, On};
+ghost use Rattle.snap_search.specs.{Kept.IsStep, Kept.IsWay, Kept.step_at, Leads.stand, Places.Comes, Places.Goes};
+ghost use Rattle.snap_search.specs.{Walk.at_top, Work.IsPresent};
 
-use crate::down::{Spot, pass_by, top};
+use crate::down::{Spot, top};
 use crate::kept::Way;
 use crate::places::Place;
-use crate::search::{child_of, confirm_child};
+use crate::search::{child_of, reach_child};
 use snap_stamp::Key;
 use snap_steps::{Pass, Rows, note_birth};
 use std::sync::Wait;
 
-/// A place, the spot from which the last step led there, and the one before that: at first both are row 0.
+/// A place, the spot from which the last step led there, and the one before that, which counts only where the last
+/// isn't row 0.
 #[derive(Clone, Copy)]
 pub struct Descent {
     pub place: Place,
@@ -20,7 +21,8 @@ pub struct Descent {
     pub above: Spot,
 }
 
-/// Goes down from row 0 to the place of a key. In place of what `way` has it keeps there the rows above the last spot.
+/// Goes down from row 0 to the place of a key. In place of what `way` has it keeps there the rows above the last spot,
+/// up to row 0. Before that may stand those of tries of which a check failed.
 pub(crate) fn descend<R: Wait>(
     rows: &Rows,
     rt: &R,
@@ -65,8 +67,7 @@ fn look_for_place(
     requires step { IsStep rows.now.rows pass.old.view (step_at spot.now) }
     requires present { IsPresent pass.old.view spot.now.row epoch }
     requires epoch { Among epoch pass.old.view.words.present }
-    requires way { pass.old.view.way.reads
-        ≡ On key (Standing spot.now.row spot.now.stamp spot.now.side) }
+    requires way { pass.old.view.way.reads ≡ On key (stand spot.now) }
     ensures { MatchResult result (λ p. Comes rows.now.rows pass.old pass.new key epoch spot.now p)
         (λ s. Goes rows.now.rows pass.old pass.new key epoch s) }
 {
@@ -74,10 +75,9 @@ fn look_for_place(
     if child.is_none() {
         return Ok(Place::Below { at: *spot });
     }
-    let Some(stamp) = confirm_child(rows, pass, key, spot, child) else {
+    let Some(next) = reach_child(rows, pass, key, spot, child) else {
         return Err(top());
     };
-    let next = pass_by(rows, pass, key, spot, child, stamp);
     let birth = note_birth(rows, pass, key, child);
     if birth < epoch {
         return Ok(Place::Shared { at: *spot });

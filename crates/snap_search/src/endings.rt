@@ -10,9 +10,9 @@ use snap_stamp::{Key, RowNo, Side};
 use snap_steps::{Pass, Rows, load_epoch, set_out_again};
 use std::sync::Wait;
 
-/// The last row of this epoch on the way of a key, and the row above it. The stamp is that of the row from which the way
-/// last went on, and the side the one on which it did: this is the row, or where the row has the key the row above. At
-/// row 0 there is no row above. Of a row that was kept on a way before, `here` says that it may have the key.
+/// The last row of this epoch on the way of a key, and the row above it. The stamp is that of the row from which the
+/// way last went on, and the side the one on which it did: this is the row, or where the row has the key the row above.
+/// At row 0 there is no row above. Of a row that was kept on a way before, `here` says that it may have the key.
 #[derive(Clone, Copy)]
 pub struct Ending {
     pub above: RowNo,

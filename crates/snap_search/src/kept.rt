@@ -32,10 +32,14 @@ impl Default for Step {
     }
 }
 
-/// The last rows of a way down, the lowest one last: the row above the one at which the way ended, and those above it.
+/// The last rows of a way down, the lowest one last: for a repair that is the row above the one at which the way ended,
+/// and behind a search for a write the row at which the place is.
+/// Clauses say what holds of each row that is kept (`IsWay`), and not which these are.
 #[derive(Drop)]
 pub struct Way {
     pub steps: ArrayVec<Step, ROOM>,
+    /// Behind the last turn by it the key was to do that had been before.
+    pub stayed: bool,
 }
 
 impl Way {
@@ -45,7 +49,10 @@ impl Way {
     {
         let mut steps = ArrayVec::from_array_in((), [Step::BLANK; ROOM]);
         steps.clear();
-        Way { steps }
+        Way {
+            steps,
+            stayed: false,
+        }
     }
 
     /// Lets go what was kept.
@@ -53,6 +60,7 @@ impl Way {
         ensures { self.new.steps.items ≡ [] }
     {
         self.steps.clear();
+        self.stayed = false;
     }
 
     /// Keeps the row from which the way goes on.
@@ -82,8 +90,8 @@ impl Way {
         self.steps.as_slice().last().copied()
     }
 
-    /// The lowest row, which is kept no more, and the one above it, as an end of a way at a row that has the key. None
-    /// where the lowest row is row 0, or the only one.
+    /// The lowest row, which is kept no more, and the one above it, as an end of a way at a row that may have the key.
+    /// None where the lowest row is row 0, or the only one.
     pub fn go_up(&mut self) -> Option<Ending>
         ensures { GoesUp self.old.steps.items self.new.steps.items result }
     {
@@ -92,12 +100,12 @@ impl Way {
             return None;
         }
         let above = self.steps.as_slice().last()?;
-        Some(end_below(above, &last))
+        Some(kept_end(above, &last))
     }
 }
 
 // A kept row below the one above it. Its stamp isn't kept.
-fn end_below(above: &Step, last: &Step) -> Ending
+fn kept_end(above: &Step, last: &Step) -> Ending
     ensures { result ≡ kept_end above.now last.now }
 {
     Ending {

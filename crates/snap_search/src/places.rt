@@ -41,8 +41,8 @@ pub struct Found {
 }
 
 /// Finds the place of a key, for a pass in a write. It loads `epoch` and `done` first, notes births of rows on its way,
-/// and waits for nothing but its own tries. In place of what `way` has it keeps there the row at which the place is, and
-/// those above it.
+/// and waits for nothing but its own tries. In place of what `way` has it keeps there the row at which the place is,
+/// and those above it.
 pub fn find_for_write<R: Wait>(
     rows: &Rows,
     rt: &R,

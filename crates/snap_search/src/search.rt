@@ -1,9 +1,9 @@
 //! One step down, for each way to search: the child on the way of the key, the checks by which the way leads to it,
 //! and its key.
-ghost use Rattle.std.specs.Prelude.{◌≡◌, ◌≤◌, ◌⊎◌, ℕ, MatchOption, MatchResult, None, Ok, Option};
+ghost use Rattle.std.specs.Prelude.{◌≡◌, ◌≤◌, ◌⊎◌, ℕ, MatchBool, MatchOption, MatchResult, None, Option};
 ghost use Rattle.snap_prelude.specs.{Confirmed, IsOf, Known, Matched, Point};
 ghost use Rattle.snap_steps.specs.Steps.Way.{IsLast, IsNext};
-ghost use Rattle.snap_search.specs.Leads.{LeadsTo, LeadsLast, linked, no_link, stand};
+ghost use Rattle.snap_search.specs.Leads.{IsOnWay, LeadsTo, LeadsLast, linked, no_link, stand};
 ghost use Rattle.snap_search.specs.declared.down.Spot.{Spot};
 
 use crate::down::Spot;
@@ -42,8 +42,8 @@ pub(crate) trait Search: Copy {
             × IsNext point row field }
         ensures table { IsOf pass.new rows.now }
         ensures leads { (from : Known) → (point : Point) → comes self.now from pass.old key point
-            → LeadsTo rows.now.rows (comes self.now from pass.new key) (fails self.now from pass.new key)
-            point result };
+            → LeadsTo rows.now.rows (comes self.now from pass.new key)
+            (fails self.now from pass.new key) point result };
 
     /// Loads the last word.
     fn load_last(&self, rows: &Rows, pass: &mut Pass, key: Key, row: RowNo, field: Field) -> u64
@@ -52,7 +52,8 @@ pub(crate) trait Search: Copy {
         requires way { (from : Known) × (point : Point) × comes self.now from pass.old key point
             × IsLast point row field }
         ensures { (from : Known) → (point : Point) → comes self.now from pass.old key point
-            → LeadsLast (ends self.now from pass.new key) (misses self.now from pass.new key) point result };
+            → LeadsLast (ends self.now from pass.new key) (misses self.now from pass.new key)
+            point result };
 
     /// Loads the key of a child to which the way leads: the key itself, or where the search goes on. None where a check
     /// fails.
@@ -66,7 +67,7 @@ pub(crate) trait Search: Copy {
     ) -> Option<Option<Self>>
         requires table { IsOf pass.old rows.now }
         requires child { child ≤ rows.now.rows }
-        requires way { (from : Known) × comes self.now from pass.old key (Confirmed child stamp) }
+        requires way { IsOnWay (comes self.now) pass.old key (Confirmed child stamp) }
         ensures table { IsOf pass.new rows.now }
         ensures passes { (from : Known) → comes self.now from pass.old key (Confirmed child stamp)
             → MatchOption result (fails self.now from pass.new key)
@@ -78,10 +79,11 @@ pub(crate) trait Search: Copy {
 pub(crate) fn child_of<S: Search>(rows: &Rows, pass: &mut Pass, key: Key, search: &S) -> RowNo
     requires table { IsOf pass.old rows.now }
     requires row { (S.spot search.now).row ≤ rows.now.rows }
-    requires way { (from : Known) × S.comes search.now from pass.old key (stand (S.spot search.now)) }
+    requires way { IsOnWay (S.comes search.now) pass.old key (stand (S.spot search.now)) }
     ensures table { IsOf pass.new rows.now }
     ensures row { result ≤ rows.now.rows }
-    ensures leads { (from : Known) → S.comes search.now from pass.old key (stand (S.spot search.now))
+    ensures leads { (from : Known)
+        → S.comes search.now from pass.old key (stand (S.spot search.now))
         → LeadsTo rows.now.rows (S.comes search.now from pass.new key)
         (S.fails search.now from pass.new key) (stand (S.spot search.now)) result }
 {
@@ -90,22 +92,25 @@ pub(crate) fn child_of<S: Search>(rows: &Rows, pass: &mut Pass, key: Key, search
     rows.row_of(word)
 }
 
-/// Checks that the way leads to the child, and answers its stamp. None where it may not.
-pub(crate) fn confirm_child<S: Search>(
+/// Goes to the child, once the checks say that the way leads there: that it has the key, or where the search goes on
+/// from it. None where a check fails.
+pub(crate) fn reach_child<S: Search>(
     rows: &Rows,
     pass: &mut Pass,
     key: Key,
     search: &S,
     child: RowNo,
-) -> Option<Stamp>
+) -> Option<Option<S>>
     requires table { IsOf pass.old rows.now }
     requires row { (S.spot search.now).row ≤ rows.now.rows }
     requires child { child ≤ rows.now.rows }
-    requires way { (from : Known) × S.comes search.now from pass.old key (linked (S.spot search.now) child) }
+    requires way { IsOnWay (S.comes search.now) pass.old key (linked (S.spot search.now) child) }
     ensures table { IsOf pass.new rows.now }
-    ensures checks { (from : Known) → S.comes search.now from pass.old key (linked (S.spot search.now) child)
+    ensures passes { (from : Known)
+        → S.comes search.now from pass.old key (linked (S.spot search.now) child)
         → MatchOption result (S.fails search.now from pass.new key)
-        (λ w. S.comes search.now from pass.new key (Confirmed child w)) }
+        (λ o. MatchOption o (S.comes search.now from pass.new key (Matched child))
+        (λ s. S.passes search.now from pass.new key child s)) }
 {
     let spot = search.spot();
     let mark = search.load_next(rows, pass, key, child, Field::Stamp);
@@ -113,6 +118,7 @@ pub(crate) fn confirm_child<S: Search>(
     if !stamp.is_unmarked() {
         return None;
     }
+    // By the link the child was one while it had this stamp, and by the row's own stamp the row was on the way then.
     let again = search.load_next(rows, pass, key, spot.row, spot.side.link());
     if again != child.number() as u64 {
         return None;
@@ -121,7 +127,7 @@ pub(crate) fn confirm_child<S: Search>(
     if still != spot.stamp.word() {
         return None;
     }
-    Some(stamp)
+    search.pass_by(rows, pass, key, child, stamp)
 }
 
 /// One step down: the answer, or where the search goes on. None where a check fails.
@@ -133,54 +139,48 @@ pub(crate) fn look<S: Search>(
 ) -> Option<Result<Option<u64>, S>>
     requires table { IsOf pass.old rows.now }
     requires row { (S.spot search.now).row ≤ rows.now.rows }
-    requires way { (from : Known) × S.comes search.now from pass.old key (stand (S.spot search.now)) }
+    requires way { IsOnWay (S.comes search.now) pass.old key (stand (S.spot search.now)) }
     ensures { (from : Known) → S.comes search.now from pass.old key (stand (S.spot search.now))
         → MatchOption result
         (S.fails search.now from pass.new key ⊎ S.misses search.now from pass.new key)
         (λ r. MatchResult r (λ a. S.ends search.now from pass.new key a)
-        (λ s. (child : ℕ) × (child ≤ rows.now.rows) × S.passes search.now from pass.new key child s)) }
+        (λ s. (child : ℕ) × (child ≤ rows.now.rows)
+        × S.passes search.now from pass.new key child s)) }
 {
     let child = child_of(rows, pass, key, search);
     if child.is_none() {
-        return end(rows, pass, key, search);
+        return if ends_here(rows, pass, key, search) {
+            Some(Ok(None))
+        } else {
+            None
+        };
     }
-    let Some(stamp) = confirm_child(rows, pass, key, search, child) else {
-        return None;
-    };
-    match search.pass_by(rows, pass, key, child, stamp) {
+    match reach_child(rows, pass, key, search, child) {
         None => None,
         Some(Some(next)) => Some(Err(next)),
         Some(None) => Some(Ok(value(rows, pass, key, search, child))),
     }
 }
 
-// Checks that the way of the key ends at the row.
-fn end<S: Search>(
-    rows: &Rows,
-    pass: &mut Pass,
-    key: Key,
-    search: &S,
-) -> Option<Result<Option<u64>, S>>
+// Whether the way of the key still ends at the row, whose link was 0.
+fn ends_here<S: Search>(rows: &Rows, pass: &mut Pass, key: Key, search: &S) -> bool
     requires table { IsOf pass.old rows.now }
     requires row { (S.spot search.now).row ≤ rows.now.rows }
-    requires way { (from : Known) × S.comes search.now from pass.old key (no_link (S.spot search.now)) }
+    requires way { IsOnWay (S.comes search.now) pass.old key (no_link (S.spot search.now)) }
     ensures { (from : Known) → S.comes search.now from pass.old key (no_link (S.spot search.now))
-        → MatchOption result (S.misses search.now from pass.new key)
-        (λ r. (r ≡ Ok None) × S.ends search.now from pass.new key None) }
+        → MatchBool result (S.ends search.now from pass.new key None)
+        (S.misses search.now from pass.new key) }
 {
     let spot = search.spot();
     let still = search.load_last(rows, pass, key, spot.row, Field::Stamp);
-    if still != spot.stamp.word() {
-        return None;
-    }
-    Some(Ok(None))
+    still == spot.stamp.word()
 }
 
 // The value of the row with the key.
 fn value<S: Search>(rows: &Rows, pass: &mut Pass, key: Key, search: &S, row: RowNo) -> Option<u64>
     requires table { IsOf pass.old rows.now }
     requires row { row ≤ rows.now.rows }
-    requires way { (from : Known) × S.comes search.now from pass.old key (Matched row) }
+    requires way { IsOnWay (S.comes search.now) pass.old key (Matched row) }
     ensures { (from : Known) → S.comes search.now from pass.old key (Matched row)
         → S.ends search.now from pass.new key result }
 {

@@ -2,7 +2,7 @@ use Rattle.std.proofs.Common.{rules, ◌≡◌, ◌≢◌, ℕ, ◌≤◌, [], �
 use Rattle.snap_prelude.specs.{Among, Birth, IsKnown, Known, NoLink, On}
 use Rattle.snap_search.specs.Prelude.{at_top}
 use Rattle.snap_search.proofs.{Coming.stands, Walking.from_top, Working.stays_present, Working.stays_reached}
-use Rattle.snap_search.proofs.{Working.walk_works, Finding.downs, Finding.notes_it}
+use Rattle.snap_search.proofs.{Working.walk_works, Finding.goes_down, Finding.notes_it}
 use Rattle.snap_search.proofs.descent.look_for_place.Goals as goal
 
 pub child_of-child-requires-clause-way : goal.child_of-child-requires-clause-way
@@ -27,8 +27,8 @@ returns-then-is_none c =
       };
     }
 
-pub confirm_child-requires-clause-way : goal.confirm_child-requires-clause-way
-confirm_child-requires-clause-way c =
+pub reach_child-requires-clause-way : goal.reach_child-requires-clause-way
+reach_child-requires-clause-way c =
     let k : ℕ = c.args.key in let s = c.args.spot.now in let x : ℕ = c.child_of-child.result in let old : Known = c.args.pass.now in
     let ne : x ≢ 0 = search rules in
     let lead = c.child_of-child.ensures.leads old (stands s old k c.requires.way) in
@@ -39,10 +39,10 @@ returns-in_default c =
     let k : ℕ = c.args.key in let s = c.args.spot.now in let x : ℕ = c.child_of-child.result in let old : Known = c.args.pass.now in
     let ne : x ≢ 0 = search rules in
     let lead = c.child_of-child.ensures.leads old (stands s old k c.requires.way) in
-    let t = c.top in let q = c.in_default.ensures.checks old (lead.2 ne) in
-    let z = from_top old c.confirm_child.new.pass k t.result.row t.result.stamp t.result.side q.walks t.ensures.row.0 t.ensures.row.1 t.ensures.side in record {
+    let t = c.top in let q = c.in_default.ensures.passes old (lead.2 ne) in
+    let z = from_top old c.reach_child.new.pass k t.result q.walks t.ensures.row.0 t.ensures.row.1 t.ensures.side in record {
       births = [];
-      works = walk_works old c.confirm_child.new.pass (at_top k) q.walks;
+      works = walk_works old c.reach_child.new.pass (at_top k) q.walks;
       noted = tt;
       seen = q.seen;
       step = record { low = omega (arith, t.ensures.row.0); reached = inl t.ensures.row.0; on_right = λ z. t.ensures.side };
@@ -50,44 +50,21 @@ returns-in_default c =
       at = z.at;
     }
 
-pub pass_by-next-requires-clause-way : goal.pass_by-next-requires-clause-way
-pass_by-next-requires-clause-way c =
-    let k : ℕ = c.args.key in let s = c.args.spot.now in let x : ℕ = c.child_of-child.result in let old : Known = c.args.pass.now in
-    let ne : x ≢ 0 = search rules in
-    let lead = c.child_of-child.ensures.leads old (stands s old k c.requires.way) in
-    (old, c.in-Some.ensures.checks old (lead.2 ne))
-
 pub note_birth-birth-requires-clause-reached : goal.note_birth-birth-requires-clause-reached
-note_birth-birth-requires-clause-reached c =
-    let k : ℕ = c.args.key in let s = c.args.spot.now in let x : ℕ = c.child_of-child.result in let old : Known = c.args.pass.now in
-    let ne : x ≢ 0 = search rules in
-    let lead = c.child_of-child.ensures.leads old (stands s old k c.requires.way) in
-    let d = downs s old c.pass_by-next.new.pass k x c.pass_by-next.result (c.pass_by-next.ensures.passes old (c.in-Some.ensures.checks old (lead.2 ne))) in
-    d.led.0.1
+note_birth-birth-requires-clause-reached c = let ne : c.child_of-child.result ≢ 0 = search rules in let d = goes_down c.args.rows.now.rows c.args.spot.now c.args.pass.now c.child_of-child.new.pass c.reach_child.new.pass c.args.key c.child_of-child.result c.in-Some.next c.requires.way c.child_of-child.ensures.leads ne c.in-Some.ensures.passes in d.led.0.1
 
 pub note_birth-birth-requires-clause-way : goal.note_birth-birth-requires-clause-way
-note_birth-birth-requires-clause-way c =
-    let k : ℕ = c.args.key in let s = c.args.spot.now in let x : ℕ = c.child_of-child.result in let old : Known = c.args.pass.now in
-    let ne : x ≢ 0 = search rules in
-    let lead = c.child_of-child.ensures.leads old (stands s old k c.requires.way) in
-    let d = downs s old c.pass_by-next.new.pass k x c.pass_by-next.result (c.pass_by-next.ensures.passes old (c.in-Some.ensures.checks old (lead.2 ne))) in
-    (d.point, d.way)
+note_birth-birth-requires-clause-way c = let ne : c.child_of-child.result ≢ 0 = search rules in let d = goes_down c.args.rows.now.rows c.args.spot.now c.args.pass.now c.child_of-child.new.pass c.reach_child.new.pass c.args.key c.child_of-child.result c.in-Some.next c.requires.way c.child_of-child.ensures.leads ne c.in-Some.ensures.passes in (d.point, d.way)
 
 pub note_birth-birth-requires-clause-confirmed : goal.note_birth-birth-requires-clause-confirmed
-note_birth-birth-requires-clause-confirmed c =
-    let k : ℕ = c.args.key in let s = c.args.spot.now in let x : ℕ = c.child_of-child.result in let old : Known = c.args.pass.now in
-    let ne : x ≢ 0 = search rules in
-    let lead = c.child_of-child.ensures.leads old (stands s old k c.requires.way) in
-    let d = downs s old c.pass_by-next.new.pass k x c.pass_by-next.result (c.pass_by-next.ensures.passes old (c.in-Some.ensures.checks old (lead.2 ne))) in
-    d.led.1
+note_birth-birth-requires-clause-confirmed c = let ne : c.child_of-child.result ≢ 0 = search rules in let d = goes_down c.args.rows.now.rows c.args.spot.now c.args.pass.now c.child_of-child.new.pass c.reach_child.new.pass c.args.key c.child_of-child.result c.in-Some.next c.requires.way c.child_of-child.ensures.leads ne c.in-Some.ensures.passes in d.led.1
 
 pub returns-then-birth-epoch : goal.returns-then-birth-epoch
 returns-then-birth-epoch c =
     let k : ℕ = c.args.key in let s = c.args.spot.now in let x : ℕ = c.child_of-child.result in let old : Known = c.args.pass.now in
     let ne : x ≢ 0 = search rules in
-    let lead = c.child_of-child.ensures.leads old (stands s old k c.requires.way) in
-    let d = downs s old c.pass_by-next.new.pass k x c.pass_by-next.result (c.pass_by-next.ensures.passes old (c.in-Some.ensures.checks old (lead.2 ne))) in
-    let b : ℕ = c.note_birth-birth.result in let new : Known = c.note_birth-birth.new.pass in let t = notes_it s old c.pass_by-next.new.pass new k x b d c.note_birth-birth.ensures.pass in let works = t.works in
+    let d = goes_down c.args.rows.now.rows s old c.child_of-child.new.pass c.reach_child.new.pass k x c.in-Some.next c.requires.way c.child_of-child.ensures.leads ne c.in-Some.ensures.passes in
+    let b : ℕ = c.note_birth-birth.result in let new : Known = c.note_birth-birth.new.pass in let t = notes_it s old c.reach_child.new.pass new k x b d c.note_birth-birth.ensures.pass in let works = t.works in
     record {
       births = b ∷ [];
       works = works;
@@ -115,11 +92,11 @@ returns-in-Some-next c =
     let k : ℕ = c.args.key in let s = c.args.spot.now in let x : ℕ = c.child_of-child.result in let old : Known = c.args.pass.now in
     let ne : x ≢ 0 = search rules in
     let lead = c.child_of-child.ensures.leads old (stands s old k c.requires.way) in
-    let d = downs s old c.pass_by-next.new.pass k x c.pass_by-next.result (c.pass_by-next.ensures.passes old (c.in-Some.ensures.checks old (lead.2 ne))) in
-    let b : ℕ = c.note_birth-birth.result in let new : Known = c.note_birth-birth.new.pass in let n = c.in-Some-next.next in let t = notes_it s old c.pass_by-next.new.pass new k x b d c.note_birth-birth.ensures.pass in
+    let d = goes_down c.args.rows.now.rows s old c.child_of-child.new.pass c.reach_child.new.pass k x c.in-Some.next c.requires.way c.child_of-child.ensures.leads ne c.in-Some.ensures.passes in
+    let b : ℕ = c.note_birth-birth.result in let new : Known = c.note_birth-birth.new.pass in let t = notes_it s old c.reach_child.new.pass new k x b d c.note_birth-birth.ensures.pass in
     let from : c.args.epoch ≤ b = c.if-birth-epoch.false in let past : b ≤ c.args.epoch = c.note_birth-birth.ensures.past c.args.epoch (d.works.present c.args.epoch c.requires.epoch) in
     let is : b ≡ c.args.epoch = omega arith in
-    let by = c.in-Some-next.ensures.passes old (c.in-Some.ensures.checks old (lead.2 ne)) in record {
+    let by = rw c.in-Some-next.is at (c.in-Some.ensures.passes old (lead.2 ne)) in record {
       births = b ∷ [];
       works = t.works;
       noted = (from, tt);
@@ -138,10 +115,10 @@ returns-in-None c =
     let k : ℕ = c.args.key in let s = c.args.spot.now in let x : ℕ = c.child_of-child.result in let old : Known = c.args.pass.now in
     let ne : x ≢ 0 = search rules in
     let lead = c.child_of-child.ensures.leads old (stands s old k c.requires.way) in
-    let d = downs s old c.pass_by-next.new.pass k x c.pass_by-next.result (c.pass_by-next.ensures.passes old (c.in-Some.ensures.checks old (lead.2 ne))) in
-    let b : ℕ = c.note_birth-birth.result in let new : Known = c.note_birth-birth.new.pass in let t = notes_it s old c.pass_by-next.new.pass new k x b d c.note_birth-birth.ensures.pass in
+    let d = goes_down c.args.rows.now.rows s old c.child_of-child.new.pass c.reach_child.new.pass k x c.in-Some.next c.requires.way c.child_of-child.ensures.leads ne c.in-Some.ensures.passes in
+    let b : ℕ = c.note_birth-birth.result in let new : Known = c.note_birth-birth.new.pass in let t = notes_it s old c.reach_child.new.pass new k x b d c.note_birth-birth.ensures.pass in
     let from : c.args.epoch ≤ b = c.if-birth-epoch.false in let past : b ≤ c.args.epoch = c.note_birth-birth.ensures.past c.args.epoch (d.works.present c.args.epoch c.requires.epoch) in
-    let is : b ≡ c.args.epoch = omega arith in let by = c.in-None.ensures.passes old (c.in-Some.ensures.checks old (lead.2 ne)) in record {
+    let is : b ≡ c.args.epoch = omega arith in let by = rw c.in-None.is at (c.in-Some.ensures.passes old (lead.2 ne)) in record {
       births = b ∷ [];
       works = t.works;
       noted = record { upper = []; are = ap (λ (y : ℕ). y ∷ []) is; from = tt };

@@ -1,7 +1,7 @@
 use Rattle.std.proofs.Common.{rules, ◌≡◌, ℕ, ◌%◌, refl, ap, ◌∙◌}
 use Rattle.snap_prelude.specs.{link_field, Stamped, Relinked}
 use Rattle.snap_search.specs.{Leads.linked, Prelude.Spot}
-use Rattle.snap_search.proofs.search.confirm_child.Goals as goal
+use Rattle.snap_search.proofs.search.reach_child.Goals as goal
 
 pub load_next-mark-requires-clause-way : goal.load_next-mark-requires-clause-way
 load_next-mark-requires-clause-way g c = let way = c.requires.way in (way.0, linked (g.S.Search.spot c.args.search.now) c.args.child, way.1, (refl, refl))
