@@ -1,4 +1,3 @@
 pub mod Taking
 pub mod Freeing
 pub mod Entering
-pub mod Begun

@@ -2,7 +2,8 @@
 use Rattle.std.specs.Prelude.{◌≡◌, ℕ, ◌≤◌, []}
 use Rattle.snap_prelude.specs.{Idle, IsOf, Known, Laid, Nothing, Passing}
 
--- a pass of that table and number that is idle and in no change, holds and admitted nothing, and has so many uses at most
+-- a pass of that table and number that is idle and in no change, holds and admitted nothing, and
+-- has so many uses at most
 pub record IsIdlePass (rows : Laid) (who most : ℕ) (pass : Known) : Type 0 where
   pub of : IsOf pass rows
   pub passing : pass.view.role ≡ Passing

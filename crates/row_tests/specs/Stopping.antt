@@ -1,22 +1,28 @@
--- A write that stops in the midst of a change of the tree's shape: the rows that its pass has taken until then.
-use Rattle.std.specs.Prelude.{◌≡◌, ◌≢◌, ◌+◌, ◌≤◌, ◌<◌, ℕ, Bool, false}
+-- A write that stops in the midst of a change of the tree's shape: the rows that its pass has taken
+-- until then.
+use Rattle.std.specs.Prelude.{◌≡◌, ◌≢◌, ◌≤◌, ◌<◌, ℕ, Bool, false}
 use Rattle.snap_copy.specs.Mending.{Firm, NoWord}
-use Rattle.snap_prelude.specs.{AimsAt, Among, Becomes, count_of, IsOf, IsRouting, Known, Laid, last_count, link_field}
-use Rattle.snap_prelude.specs.{no_debt, Nothing, other, read, shrunk, Side, times, View, Writing}
-use Rattle.snap_shape.specs.{Grips.AreWithin, Grips.edge_at, Grips.IsEdge, Grips.IsTurning, Grips.IsWithin, Grips.Leads}
+use Rattle.snap_prelude.specs.{AimsAt, Among, count_of, IsOf, IsRouting, Known, Laid, last_count}
+use Rattle.snap_prelude.specs.{no_debt, Nothing, Side, times, View, Writing}
+use Rattle.snap_shape.specs.{Grips.AreWithin, Grips.edge_at, Grips.IsEdge, Grips.IsTurning, Grips.IsWithin}
 use Rattle.snap_shape.specs.{declared.grip.Edge.Edge, declared.grip.Grip.Grip, declared.grip.Turn.Turn}
 
 -- no row is held but row 0 and these two
 abbrev pub HoldsOnly : View → ℕ → ℕ → Type 0
 HoldsOnly v upper lower = (r : ℕ) → r ≢ 0 → r ≢ upper → r ≢ lower → times r v.holds ≡ 0
 
+-- or but row 0 and these three
+abbrev pub HoldsThree : View → ℕ → ℕ → ℕ → Type 0
+HoldsThree v a b c = (r : ℕ) → r ≢ 0 → r ≢ a → r ≢ b → r ≢ c → times r v.holds ≡ 0
+
 -- the child of a held row was found, and locked. It isn't the row above that
-pub record Takes (rows : ℕ) (old new : Known) (upper : ℕ) (parent : Grip) (d : Side) (child : Grip) : Type 0 where
+pub record Takes (rows : ℕ) (old new : Known) (upper : ℕ) (parent : Grip) (d : Side)
+    (child : Grip) : Type 0 where
   pub firm : Firm old new NoWord
   pub edge : IsEdge new.view (edge_at parent d child)
   pub low : child.row ≤ rows
   pub apart : child.row ≢ upper
-  pub only : (r : ℕ) → r ≢ 0 → r ≢ upper → r ≢ parent.row → r ≢ child.row → times r new.view.holds ≡ 0
+  pub only : HoldsThree new.view upper parent.row child.row
 
 -- row 0 and the root are held, and no other
 pub record TakesTop (rows : ℕ) (old new : Known) (e : Edge) : Type 0 where
@@ -38,9 +44,10 @@ pub record TakesEdge (rows : ℕ) (old new : Known) (e : Edge) : Type 0 where
 
 -- no row is held but row 0 and those of a rotation
 abbrev pub HoldsTurning : View → Turn → Type 0
-HoldsTurning v t = (r : ℕ) → r ≢ 0 → r ≢ t.parent.row → r ≢ t.row.row → r ≢ t.raised.row → times r v.holds ≡ 0
+HoldsTurning v t = HoldsThree v t.parent.row t.row.row t.raised.row
 
--- three rows one below the other were taken, and row 0, which may be the uppermost of them. No other is held
+-- three rows one below the other were taken, and row 0, which may be the uppermost of them. No
+-- other is held
 pub record HasTaken (rows : Laid) (old k : Known) (t : Turn) : Type 0 where
   pub of : IsOf k rows
   pub rows_are : AreWithin rows.rows t
@@ -63,16 +70,6 @@ pub record MayTurnRoot (rows : Laid) (old k : Known) (t : Turn) : Type 0 where
   pub top : t.parent.row ≡ 0
   pub owes : k.view.debt ≡ no_debt
   pub count : count_of t.row.stamp < last_count
-
--- the view once a rotation was begun: the link of the row that comes up was loaded, and the mark set
-abbrev pub turn_begun : View → Turn → ℕ → View
-turn_begun v t middle = shrunk (read v t.raised.row (link_field (other t.side)) middle) t.parent.row t.parent_side t.row.row t.side t.raised.row (t.row.stamp + 2) t.row.key
-
--- a rotation of these rows was begun by a pass that held them, and the link is known
-pub record HasBegunTurn (old k : Known) (t : Turn) (middle : ℕ) : Type 0 where
-  pub turn : IsTurning old.view t
-  pub begun : Becomes old k (turn_begun old.view t middle)
-  pub middle_is : Leads k.view t.raised.row (other t.side) middle
 
 -- the row may be unlinked: it has neither a value nor children, and the to-do key is its own
 pub record IsUnlinkable (v : View) (row : ℕ) : Type 0 where
@@ -107,7 +104,8 @@ pub record HoldsTurn (rows : Laid) (k : Known) (made : Bool) (t : Turn) : Type 0
   pub writing : IsWritingPass rows k made
   pub rows_are : AreWithin rows.rows t
   pub some : (t.parent.row ≢ 0) × (t.row.row ≢ 0) × (t.raised.row ≢ 0)
-  pub apart : (t.parent.row ≢ t.row.row) × (t.parent.row ≢ t.raised.row) × (t.row.row ≢ t.raised.row)
+  pub apart : (t.parent.row ≢ t.row.row) × (t.parent.row ≢ t.raised.row)
+      × (t.row.row ≢ t.raised.row)
   pub zero : Among 0 k.view.holds
   pub upper : Among t.parent.row k.view.holds
   pub row : Among t.row.row k.view.holds

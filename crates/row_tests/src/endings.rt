@@ -4,44 +4,45 @@ ghost use Rattle.snap_table.specs.Ready.{IsReadyTo};
 ghost use Rattle.snap_update.specs.Answers.{FitsWord};
 
 use crate::asserts::is;
-use crate::stopped::{make, put_seven};
+use crate::stopped::put_seven;
 use snap_epoch::{enter, leave};
 use snap_locks::{lock, unlock};
 use snap_model::Call;
 use snap_search::get;
 use snap_stamp::{Key, RowNo};
 use snap_steps::{Pass, Rows};
+use snap_table::make_call;
 use std::process::Abort;
 use std::sync::Wait;
 use std::test::Fail;
 
-// Puts a key beside the seven. Below 70 it gives 70, 60 and 40 another height, below 10 that, 20 and 40.
-pub(crate) fn put_eighth<R: Abort + Wait>(rows: &Rows, rt: &R, pass: &mut Pass, key: Key)
+// Puts a key beside the seven. Below 70 it gives 70, 60 and 40 another height.
+fn put_eighth<R: Abort + Wait>(rows: &Rows, rt: &R, pass: &mut Pass, key: Key)
     requires pass { IsReadyTo rows.now 0 7 pass.old }
     requires value { FitsWord (Put key key) }
     ensures { IsReadyTo rows.now 0 8 pass.new }
 {
     let call = Call::Put { key, value: key };
-    is(rt, make(rows, rt, pass, &call), Ok(None));
+    is(rt, make_call(rows, rt, pass, &call), Ok(None));
 }
 
-// 65 goes below 70, which has 80 on its other side: the repair ends at 70. Then 65 leaves the tree: it ends there again.
+// 65 goes below 70, which has 80 on its other side: the repair ends at 70. 65 leaves the tree: it ends there again.
 fn comes_and_goes<R: Abort + Wait>(rows: &Rows, rt: &R, pass: &mut Pass)
     requires { IsReadyTo rows.now 0 8 pass.old }
     ensures { IsReadyTo rows.now 0 10 pass.new }
 {
     let comes = Call::Put { key: 65, value: 65 };
-    is(rt, make(rows, rt, pass, &comes), Ok(None));
+    is(rt, make_call(rows, rt, pass, &comes), Ok(None));
     let goes = Call::Remove { key: 65 };
-    is(rt, make(rows, rt, pass, &goes), Ok(Some(65)));
+    is(rt, make_call(rows, rt, pass, &goes), Ok(Some(65)));
 }
 
-// 90 goes below 80: 70 leans and goes down below 80, and what stands below 60 is as high as before. The repair ends at 60.
+// 90 goes below 80: 70 leans and goes down below 80, and what is below 60 is as high as before. The repair ends at 60.
 fn turns<R: Abort + Wait>(rows: &Rows, rt: &R, pass: &mut Pass)
     requires { IsReadyTo rows.now 0 10 pass.old }
 {
     let call = Call::Put { key: 90, value: 90 };
-    is(rt, make(rows, rt, pass, &call), Ok(None));
+    is(rt, make_call(rows, rt, pass, &call), Ok(None));
 }
 
 // The value at each of these keys.

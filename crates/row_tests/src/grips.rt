@@ -5,7 +5,8 @@ ghost use Rattle.snap_repair.specs.Answers.{IsMending};
 ghost use Rattle.snap_prelude.specs.{Among, IsOf, no_debt, Right};
 ghost use Rattle.snap_search.specs.Prelude.{IsReached};
 ghost use Rattle.snap_shape.specs.Grips.{HasGrip};
-ghost use Rattle.row_tests.specs.Stopping.{HoldsOnly, IsUnlinkable, MayTurn, MayTurnRoot, MayUnlink, MayUnlinkRoot, Takes, TakesEdge, TakesTop};
+ghost use Rattle.row_tests.specs.Stopping.{HoldsOnly, IsUnlinkable, MayTurn, MayTurnRoot, MayUnlink, MayUnlinkRoot};
+ghost use Rattle.row_tests.specs.Stopping.{Takes, TakesEdge, TakesTop};
 
 use crate::waits::comes;
 use snap_locks::lock;
@@ -21,7 +22,8 @@ fn grip_of(rows: &Rows, pass: &mut Pass, row: RowNo) -> Option<Grip>
     requires row { row ≤ rows.now.rows }
     requires held { Among row pass.old.view.holds }
     requires reached { IsReached pass.old.view row }
-    ensures grip { MatchOption result (Looks pass.old pass.new) (λ g. (g.row ≡ row) × Looks pass.old pass.new × HasGrip pass.new.view g) }
+    ensures grip { MatchOption result (Looks pass.old pass.new)
+        (λ g. (g.row ≡ row) × Looks pass.old pass.new × HasGrip pass.new.view g) }
 {
     let epoch = load_epoch(rows, pass);
     let birth = load_word(rows, pass, row, Field::Birth);
@@ -98,8 +100,8 @@ fn take_edge<R: Wait>(rows: &Rows, rt: &R, pass: &mut Pass, side: Side) -> Optio
     })
 }
 
-// The rows of a rotation at the right child of the root, which is to go down below its own right child. That one is locked
-// once a value is found at the awaited key.
+// The rows of a rotation at the right child of the root, which is to go down below its own right child. That one is
+// locked once a value is found at the awaited key.
 pub(crate) fn take_turn<R: Wait>(
     rows: &Rows,
     rt: &R,
@@ -167,8 +169,8 @@ fn is_gone(rows: &Rows, pass: &mut Pass, row: &Grip) -> bool
     to_do == row.key
 }
 
-// The rows of an unlinking, one below the other: the root, its left child, and the right child of that, which has neither
-// a value nor children.
+// The rows of an unlinking, one below the other: the root, its left child, and the right child of that, which has
+// neither a value nor children.
 pub(crate) fn take_routing<R: Wait>(rows: &Rows, rt: &R, pass: &mut Pass) -> Option<Turn>
     requires table { IsOf pass.old rows.now }
     requires mending { IsMending pass.old.view }

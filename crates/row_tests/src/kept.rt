@@ -1,5 +1,5 @@
-//! The rows that a search for a repair keeps, in a table of seven keys: 40 above 20 and 60, and these above 10, 30, 50 and
-//! 70. The row of a key is a tenth of it.
+//! The rows that a search for a repair keeps, in a table of seven keys: 40 above 20 and 60, and these above 10, 30, 50
+//! and 70. The row of a key is a tenth of it.
 ghost use Rattle.std.specs.Prelude.{◌≡◌, Bool};
 ghost use Rattle.snap_prelude.specs.{IsOf, Writing};
 
@@ -27,7 +27,8 @@ fn ends<R: Wait>(
     key: Key,
 ) -> Result<String, AllocError>
     requires table { IsOf pass.old rows.now }
-    requires writing { (made : Bool) × (counted : Bool) × (pass.old.view.stage ≡ Writing made counted) }
+    requires writing { (made : Bool) × (counted : Bool)
+        × (pass.old.view.stage ≡ Writing made counted) }
 {
     let mut way = Way::none();
     let end = find_to_repair(rows, rt, pass, key, &mut way);
@@ -49,7 +50,8 @@ fn ends_so<R: Abort + Wait>(
     want: &str,
 )
     requires table { IsOf pass.old rows.now }
-    requires writing { (made : Bool) × (counted : Bool) × (pass.old.view.stage ≡ Writing made counted) }
+    requires writing { (made : Bool) × (counted : Bool)
+        × (pass.old.view.stage ≡ Writing made counted) }
 {
     let found = ends(rows, rt, alloc, pass, key).expect(rt, "no memory");
     assert_eq!(rt; found.as_str(), want);

@@ -1,6 +1,6 @@
-//! Tests of the crates below the table, by their public calls: stamps, draws, the gate, locks, searches, single writes, and
-//! reads that meet a write which stopped. They stand in a crate of their own, so that the others are proved once and not
-//! once more with their tests.
+//! Tests of the crates below the table, by their public calls: stamps, draws, the gate, locks, searches, single writes,
+//! and reads that meet a write which stopped. They stand in a crate of their own, so that the others are proved once
+//! and not once more with their tests.
 #![tactic(auto)]
 
 #[cfg(test)]
@@ -23,8 +23,6 @@ mod searches;
 mod stamps;
 #[cfg(test)]
 mod stopped;
-#[cfg(test)]
-mod turns;
 #[cfg(test)]
 mod waits;
 #[cfg(test)]

@@ -1,28 +1,28 @@
 //! A write that stops in the midst of a rotation or of an unlinking, and the reads that then come by.
-ghost use Rattle.std.specs.Prelude.{◌≡◌, ◌<◌, ◌≤◌, ◌+◌, ◌^◌, [], false, true, MatchResult};
+ghost use Rattle.std.specs.Prelude.{◌≡◌, ◌<◌, ◌≤◌, ◌^◌, [], false, true};
 ghost use Rattle.snap_prelude.specs.{count_of, IsOf, last_count, no_debt, Nothing};
 ghost use Rattle.row_tests.specs.Stopping.{HoldsRoot, HoldsTop, HoldsTurn, IsUnlinkable, IsWritingPass};
 ghost use Rattle.snap_search.specs.Prelude.{IsWay};
 ghost use Rattle.snap_shape.specs.Grips.{AreWithin, IsEdge, IsTurning, IsWithin};
 ghost use Rattle.snap_shape.specs.Shapes.{Rotates, Unlinks};
-ghost use Rattle.snap_table.specs.{Calls.IsIdle, Calls.Refuses, Calls.Replies, Ready.IsReadyTo};
+ghost use Rattle.snap_table.specs.{Calls.IsIdle, Ready.IsReadyTo};
 ghost use Rattle.snap_update.specs.Answers.{FitsWord};
 
 use crate::asserts::is;
 use crate::grips::{take_root, take_routing, take_top_turn, take_turn};
-use crate::turns::{begin_turn, end_turn};
 use crate::waits::{comes_free, comes_held};
 use snap_epoch::{enter, leave};
 use snap_locks::unlock;
 use snap_model::Call;
 use snap_repair::repair;
 use snap_search::{Busy, Way, get, try_get};
-use snap_shape::{Edge, Turn, rotate};
+use snap_shape::{Edge, Turn, begin_turn, end_turn, rotate};
 use snap_stamp::{Key, RowNo};
 use snap_steps::{
     Full, Pass, Rows, clear_shrinking, link_lowered, link_parent, link_raised, mark_unlinked,
     splice,
 };
+use snap_table::make_call;
 use snap_update::write;
 use std::alloc::{AllocError, Global};
 use std::process::Abort;
@@ -112,7 +112,7 @@ fn rotate_slowly<R: Abort + Wait>(
     let (upper, lower, upward) = (turn.parent.row, turn.row.row, turn.raised.row);
     let (key, stamp) = (turn.row.key, turn.row.stamp);
     reads_find(rows, rt, alloc, reader, ALL_ANSWER);
-    let middle = begin_turn(rows, pass, turn);
+    let middle = begin_turn(rows, pass, turn, key);
     reads_find(rows, rt, alloc, reader, BELOW_IS_BUSY);
     link_lowered(rows, pass, upper, parent_side, lower, side, upward, middle);
     reads_find(rows, rt, alloc, reader, BELOW_IS_BUSY);
@@ -209,34 +209,6 @@ fn unlink_slowly<R: Abort + Wait>(
     reads_find(rows, rt, alloc, reader, REMOVED_IS_NONE);
 }
 
-// A put or a removal, as the table makes it.
-pub(crate) fn make<R: Wait>(
-    rows: &Rows,
-    rt: &R,
-    pass: &mut Pass,
-    call: &Call,
-) -> Result<Option<u64>, Full>
-    requires table { IsOf pass.old rows.now }
-    requires idle { IsIdle pass.old.view }
-    requires uses { pass.old.view.uses < 2 ^ 48 }
-    requires value { FitsWord call.now }
-    ensures { MatchResult result (λ reply. Replies pass.old pass.new call.now reply) (λ f. (f.rows ≡ rows.now.rows) × Refuses rows.now.rows pass.old pass.new call.now) }
-{
-    enter(rows, rt, pass);
-    let mut way = Way::none();
-    match write(rows, rt, pass, call, &mut way) {
-        Ok(reply) => {
-            let _ = repair(rows, rt, pass, &mut way);
-            leave(rows, pass, true);
-            Ok(reply)
-        }
-        Err(full) => {
-            leave(rows, pass, false);
-            Err(full)
-        }
-    }
-}
-
 // Puts at the keys 10 to 70, each of itself.
 pub(crate) fn put_seven<R: Wait>(rows: &Rows, rt: &R, pass: &mut Pass) -> bool
     requires { IsReadyTo rows.now 0 0 pass.old }
@@ -245,7 +217,7 @@ pub(crate) fn put_seven<R: Wait>(rows: &Rows, rt: &R, pass: &mut Pass) -> bool
     let mut said = true;
     for turn in 0..7u64 {
         let key = 10 * turn + 10;
-        said = make(rows, rt, pass, &Call::Put { key, value: key }) == Ok(None) && said;
+        said = make_call(rows, rt, pass, &Call::Put { key, value: key }) == Ok(None) && said;
     }
     said
 }
@@ -257,8 +229,8 @@ fn put_two<R: Abort + Wait>(rows: &Rows, rt: &R, pass: &mut Pass)
 {
     let first = Call::Put { key: 1, value: 10 };
     let second = Call::Put { key: 2, value: 20 };
-    is(rt, make(rows, rt, pass, &first), Ok(None));
-    is(rt, make(rows, rt, pass, &second), Ok(None));
+    is(rt, make_call(rows, rt, pass, &first), Ok(None));
+    is(rt, make_call(rows, rt, pass, &second), Ok(None));
 }
 
 fn stop_in_rotation<R: Abort + Wait>(
@@ -302,7 +274,7 @@ fn put_eighty<R: Abort + Wait>(
     requires reader { IsOf reader rows.now }
 {
     is(rt, comes_held(rows, &mut reader, RowNo::of(6)), true);
-    make(rows, rt, &mut pass, &Call::Put { key: 80, value: 80 })
+    make_call(rows, rt, &mut pass, &Call::Put { key: 80, value: 80 })
 }
 
 // Begins a write and removes the key.
@@ -395,7 +367,7 @@ fn stop_at_root<R: Abort + Wait>(rows: &Rows, rt: &R, pass: &mut Pass, reader: &
     is(rt, try_get(rows, reader, 1), Ok(None));
 }
 
-// A rotation at the root, by which row 1 goes down below row 2, with a read of the key 2 after the first of its five steps.
+// A rotation at the root, by which row 1 goes down below row 2, with a read of the key 2 after the first of five steps.
 fn rotate_root<R: Abort>(rows: &Rows, rt: &R, pass: &mut Pass, reader: &mut Pass, turn: &Turn)
     requires table { IsOf pass.old rows.now }
     requires reader { IsOf reader.old rows.now }
@@ -407,7 +379,8 @@ fn rotate_root<R: Abort>(rows: &Rows, rt: &R, pass: &mut Pass, reader: &mut Pass
     ensures reader { IsOf reader.new rows.now }
     ensures turned { Rotates pass.old pass.new turn.now }
 {
-    let middle = begin_turn(rows, pass, turn);
+    let key = turn.row.key;
+    let middle = begin_turn(rows, pass, turn, key);
     let busy = Err(Busy {
         left: 2,
         entered: 3,
@@ -487,7 +460,7 @@ fn reads_meet_a_stopped_unlinking_of_the_root(rt: HostRuntime) -> Result<(), Fai
     let mut q = passes.pop().expect(&rt, "no second pass");
     let mut p = passes.pop().expect(&rt, "no first pass");
     let call = Call::Put { key: 1, value: 5 };
-    is(&rt, make(&rows, &rt, &mut p, &call), Ok(None));
+    is(&rt, make_call(&rows, &rt, &mut p, &call), Ok(None));
     stop_at_root(&rows, &rt, &mut p, &mut q);
     Ok(())
 }

@@ -1,44 +1,87 @@
-//! A repair goes up by the way that its write kept: it comes to rows below a row with a mark, where a search from row 0
-//! would begin again for ever, and the test would run into its limit of time.
+//! A repair goes up by the way that its write kept, behind a rotation too: it comes to rows below a row with a mark, where
+//! a search from row 0 would begin again for ever, and the test would run into its limit of time.
+ghost use Rattle.std.specs.Prelude.{◌≤◌};
 ghost use Rattle.snap_table.specs.Ready.{IsReadyTo};
 
 use crate::asserts::is;
-use crate::endings::put_eighth;
 use crate::grips::take_top_turn;
 use crate::stopped::{begin_write, end_by, free_top, put_seven};
-use crate::turns::{begin_turn, end_turn};
 use snap_epoch::enter;
 use snap_model::Call;
 use snap_search::Way;
+use snap_shape::{begin_turn, end_turn};
+use snap_stamp::Key;
 use snap_steps::{Pass, Rows};
+use snap_table::make_call;
+use std::alloc::Global;
 use std::process::Abort;
 use std::sync::Wait;
 use std::test::Fail;
 
-// 15 goes below 10, which has 5 on its other side, so that the repair ends at 10. Meanwhile the other pass holds row 0, the
-// root and its right child, and the root has the mark of a rotation.
-fn repair_below<R: Abort + Wait>(rows: &Rows, rt: &R, pass: &mut Pass, other: &mut Pass)
-    requires pass { IsReadyTo rows.now 0 8 pass.old }
+// The key that is put beside the seven at this turn: 25 below 30, 5 and 15 below 10, 80 below 70, and 3 below 5.
+fn key_beside(turn: u64) -> Key
+    ensures { result ≤ 80 }
+{
+    match turn {
+        0 => 25,
+        1 => 5,
+        2 => 80,
+        3 => 15,
+        _ => 3,
+    }
+}
+
+fn put_five<R: Wait>(rows: &Rows, rt: &R, pass: &mut Pass) -> bool
+    requires { IsReadyTo rows.now 0 7 pass.old }
+    ensures { IsReadyTo rows.now 0 12 pass.new }
+{
+    let mut said = true;
+    for turn in 0..5u64 {
+        let key = key_beside(turn);
+        said = make_call(rows, rt, pass, &Call::Put { key, value: key }) == Ok(None) && said;
+    }
+    said
+}
+
+// Puts the key and repairs. Meanwhile the other pass holds row 0, the root and its right child, and the root has the mark
+// of a rotation.
+fn repair_below<R: Abort + Wait>(rows: &Rows, rt: &R, pass: &mut Pass, other: &mut Pass, key: Key)
+    requires pass { IsReadyTo rows.now 0 12 pass.old }
     requires other { IsReadyTo rows.now 1 0 other.old }
+    requires key { key ≤ 80 }
 {
     let mut way = Way::none();
-    let call = Call::Put { key: 15, value: 15 };
+    let call = Call::Put { key, value: key };
     is(rt, begin_write(rows, rt, pass, &call, &mut way), None);
     enter(rows, rt, other);
     let turn = take_top_turn(rows, rt, other).expect(rt, "no rotation");
-    let middle = begin_turn(rows, other, &turn);
+    let key = turn.row.key;
+    let middle = begin_turn(rows, other, &turn, key);
     end_by(rows, rt, pass, &mut way, true);
     end_turn(rows, other, &turn, middle);
     free_top(rows, rt, other, &turn);
 }
 
+fn put_below<R: Abort + Wait>(rt: &R, alloc: Global, key: Key) -> Result<(), Fail>
+    requires { key ≤ 80 }
+{
+    let (rows, mut passes) = Rows::open(alloc, 13, 2)?;
+    let mut q = passes.pop().expect(rt, "no second pass");
+    let mut p = passes.pop().expect(rt, "no first pass");
+    is(rt, put_seven(&rows, rt, &mut p), true);
+    is(rt, put_five(&rows, rt, &mut p), true);
+    repair_below(&rows, rt, &mut p, &mut q, key);
+    Ok(())
+}
+
+// 35 goes below 30, which has 25 on its other side: the repair ends at 30.
 #[test]
 fn a_repair_goes_up_by_the_way_of_its_write(rt: HostRuntime) -> Result<(), Fail> {
-    let (rows, mut passes) = Rows::open(rt.alloc(), 9, 2)?;
-    let mut q = passes.pop().expect(&rt, "no second pass");
-    let mut p = passes.pop().expect(&rt, "no first pass");
-    is(&rt, put_seven(&rows, &rt, &mut p), true);
-    put_eighth(&rows, &rt, &mut p, 5);
-    repair_below(&rows, &rt, &mut p, &mut q);
-    Ok(())
+    put_below(&rt, rt.alloc(), 35)
+}
+
+// 2 goes below 3, and 5 goes down below 3: the repair comes to 5 there, then to 3, and ends at 10.
+#[test]
+fn a_rotation_leaves_the_way(rt: HostRuntime) -> Result<(), Fail> {
+    put_below(&rt, rt.alloc(), 2)
 }

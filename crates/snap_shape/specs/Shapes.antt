@@ -1,9 +1,10 @@
 -- What an unlinking and a rotation leave of what their pass knows. The map stays as it is.
 use Rattle.std.specs.Prelude.{◌≡◌, ◌≢◌, ◌+◌, ◌≤◌, ℕ, Some, true}
-use Rattle.snap_prelude.specs.{Field, held_words, IsKnown, IsNoted, to_do_at}
-use Rattle.snap_prelude.specs.{Known, no_more_notes, Nothing, other, times, View}
-use Rattle.snap_shape.specs.{Grips.HasGrip, Grips.Leads, declared.grip.Edge.Edge, declared.grip.Grip.Grip}
-use Rattle.snap_shape.specs.{declared.grip.Turn.Turn}
+use Rattle.snap_prelude.specs.{Becomes, Field, held_words, IsKnown, IsNoted, link_field, to_do_at}
+use Rattle.snap_prelude.specs.{Known, no_more_notes, Nothing, other, read, shrunk, times, View}
+use Rattle.snap_shape.specs.{Grips.HasGrip, Grips.IsTurning, Grips.Leads, declared.grip.Edge.Edge}
+use Rattle.snap_shape.specs.{declared.grip.Grip.Grip, declared.grip.Turn.Turn}
+use Rattle.snap_prelude.specs.{any_trail}
 
 -- the pass with what another view has of such a change: its steps, what it knows, and its debt
 abbrev pub shaped : Known → View → Known
@@ -11,7 +12,7 @@ shaped k w =
     record {
       table = k.table;
       view = record k.view {
-        trail = w.trail;
+        trail = any_trail k.view.trail w.trail;
         words = held_words k.view.words w.words;
         noted = no_more_notes k.view.noted w.noted;
         doing = w.doing;
@@ -37,6 +38,20 @@ pub record Unlinks (old new : Known) (e : Edge) (only : ℕ) : Type 0 where
   pub keeps : KeepsRest old new e.parent.row e.child.row e.child.row
   pub leads : Leads new.view e.parent.row e.side only
   pub to_do : new.view.debt.to_do ≡ to_do_at e.parent.row e.parent.key
+
+-- the view once a rotation was begun: the link across of the row that is to come up was loaded, the
+-- row that is to go down has the mark, and this is the to-do key
+abbrev pub turn_begun : View → Turn → ℕ → ℕ → View
+turn_begun v t key middle =
+    let loaded : View = read v t.raised.row (link_field (other t.side)) middle in
+    shrunk loaded t.parent.row t.parent_side t.row.row t.side t.raised.row (t.row.stamp + 2) key
+
+-- a rotation of these rows was begun by a pass that held them, and the link is known
+pub record HasBegunTurn (old new : Known) (t : Turn) (middle : ℕ) : Type 0 where
+  pub turn : IsTurning old.view t
+  pub key : ℕ
+  pub begun : Becomes old new (turn_begun old.view t key middle)
+  pub middle_is : Leads new.view t.raised.row (other t.side) middle
 
 -- the row with its next count
 abbrev pub later : Grip → Grip

@@ -4,10 +4,10 @@
 #![tactic(auto)]
 
 ghost use Rattle.std.specs.Prelude.{◌≡◌, ◌≢◌, ◌≤◌, ◌<◌};
-ghost use Rattle.snap_prelude.specs.{AimsNear, Among, Becomes, count_of, IsOf, IsRouting};
+ghost use Rattle.snap_prelude.specs.{AimsNear, Among, Becomes, count_of, IsOf, IsRouting, Known};
 ghost use Rattle.snap_prelude.specs.{last_count, Left, link_field, Nothing, read, Right, TurnsFor};
 ghost use Rattle.snap_shape.specs.Grips.{AreWithin, HasGrip, IsEdge, IsTurning, IsWithin, Leads, turn_below};
-ghost use Rattle.snap_shape.specs.Shapes.{Rotates, Unlinks, later};
+ghost use Rattle.snap_shape.specs.Shapes.{HasBegunTurn, Rotates, Unlinks, later};
 
 mod grip;
 
@@ -18,7 +18,7 @@ use snap_steps::{
     mark_unlinked, splice,
 };
 
-/// Takes a held row without a value and with one child at most out of the tree: the parent leads to that child, or to none.
+/// Takes a held row without a value and with one child at most out of its tree: the parent leads to that child or none.
 pub fn unlink_child(rows: &Rows, pass: &mut Pass, edge: &Edge, only: RowNo)
     requires table { IsOf pass.old rows.now }
     requires rows { IsWithin rows.now.rows edge.now }
@@ -47,9 +47,36 @@ pub fn rotate(rows: &Rows, pass: &mut Pass, turn: &Turn, key: Key) -> Grip
     ensures row { result ≡ later turn.now.row }
     ensures turned { Rotates pass.old pass.new turn.now }
 {
+    let Grip {
+        row,
+        key: row_key,
+        stamp,
+    } = turn.row;
+    let middle = begin_turn(rows, pass, turn, key);
+    end_turn(rows, pass, turn, middle);
+    Grip {
+        row,
+        key: row_key,
+        stamp: stamp + 4,
+    }
+}
+
+/// The first part of a rotation: the row that is to go down has the shrinking mark then. `key` is the to-do key from
+/// then on, as in `rotate`. Answers the link across of the row that is to come up.
+pub fn begin_turn(rows: &Rows, pass: &mut Pass, turn: &Turn, key: Key) -> RowNo
+    requires table { IsOf pass.old rows.now }
+    requires rows { AreWithin rows.now.rows turn.now }
+    requires turn { IsTurning pass.old.view turn.now }
+    requires aims { TurnsFor pass.old.view turn.now.parent.row turn.now.row.row
+        turn.now.raised.row key }
+    requires count { count_of turn.now.row.stamp < last_count }
+    requires whole { pass.old.view.doing ≡ Nothing }
+    ensures table { IsOf pass.new rows.now }
+    ensures begun { HasBegunTurn pass.old pass.new turn.now result }
+{
     let (parent_side, side, across) = (turn.parent_side, turn.side, turn.side.other());
     let (upper, lower, upward) = (turn.parent.row, turn.row.row, turn.raised.row);
-    let (row_key, stamp) = (turn.row.key, turn.row.stamp);
+    let stamp = turn.row.stamp;
     let raised = turn.raised;
     let middle = child_of(rows, pass, &raised, across);
     mark_shrinking(
@@ -63,15 +90,25 @@ pub fn rotate(rows: &Rows, pass: &mut Pass, turn: &Turn, key: Key) -> Grip
         stamp,
         key,
     );
+    middle
+}
+
+/// The second part: the three links are stored, and the mark goes. What it leaves is told since the rotation was begun.
+pub fn end_turn(rows: &Rows, pass: &mut Pass, turn: &Turn, middle: RowNo)
+    requires table { IsOf pass.old rows.now }
+    requires rows { AreWithin rows.now.rows turn.now }
+    requires count { count_of turn.now.row.stamp < last_count }
+    requires begun { (old : Known) × HasBegunTurn old pass.old turn.now middle }
+    ensures { (old : Known) → HasBegunTurn old pass.old turn.now middle
+        → Rotates old pass.new turn.now }
+{
+    let (parent_side, side) = (turn.parent_side, turn.side);
+    let (upper, lower, upward) = (turn.parent.row, turn.row.row, turn.raised.row);
+    let (row_key, stamp) = (turn.row.key, turn.row.stamp);
     link_lowered(rows, pass, upper, parent_side, lower, side, upward, middle);
     link_raised(rows, pass, upper, parent_side, lower, side, upward);
     link_parent(rows, pass, upper, parent_side, lower, side, upward, row_key);
     clear_shrinking(rows, pass, lower, stamp + 2);
-    Grip {
-        row: lower,
-        key: row_key,
-        stamp: stamp + 4,
-    }
 }
 
 /// Lowers a held row below its left child.

@@ -1,11 +1,11 @@
-use Rattle.row_tests.proofs.Begun.{begun_of}
+use Rattle.std.proofs.Common.{inl}
 use Rattle.row_tests.proofs.stopped.rotate_root.Goals as goal
 
-pub end_turn-requires-clause-table : goal.end_turn-requires-clause-table
-end_turn-requires-clause-table g c = begun_of c.args.rows.now c.args.pass.now c.begin_turn-middle.new.pass c.args.turn.now c.begin_turn-middle.result c.requires.table c.begin_turn-middle.ensures
+pub begin_turn-middle-requires-clause-aims : goal.begin_turn-middle-requires-clause-aims
+begin_turn-middle-requires-clause-aims g c = inl (c.requires.turn.upper.below.is_key, inl c.requires.owes)
 
 pub end_turn-requires-clause-begun : goal.end_turn-requires-clause-begun
-end_turn-requires-clause-begun g c = (c.args.pass.now, c.begin_turn-middle.ensures)
+end_turn-requires-clause-begun g c = (c.args.pass.now, c.begin_turn-middle.ensures.begun)
 
 pub returns-clause-turned : goal.returns-clause-turned
-returns-clause-turned g c = c.end_turn.ensures c.args.pass.now c.begin_turn-middle.ensures
+returns-clause-turned g c = c.end_turn.ensures c.args.pass.now c.begin_turn-middle.ensures.begun

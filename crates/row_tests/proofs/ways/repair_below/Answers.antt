@@ -1,5 +1,5 @@
-use Rattle.std.proofs.Common.{ap, false, rules}
-use Rattle.row_tests.proofs.{Begun.begun_of, Entering.entered_mending, Freeing.holds_top}
+use Rattle.std.proofs.Common.{ap, false, inl, rules}
+use Rattle.row_tests.proofs.{Entering.entered_mending, Freeing.holds_top}
 use Rattle.row_tests.proofs.ways.repair_below.Goals as goal
 use Rattle.row_tests.specs.Stopping.{MayTurnRoot}
 use Rattle.snap_prelude.specs.{Known}
@@ -7,17 +7,17 @@ use Rattle.snap_prelude.specs.{Known}
 pub take_top_turn-requires-clause-mending : goal.take_top_turn-requires-clause-mending
 take_top_turn-requires-clause-mending g c = entered_mending c.args.other.now c.enter.new.pass c.requires.other.idle c.enter.ensures
 
-pub end_turn-requires-clause-table : goal.end_turn-requires-clause-table
-end_turn-requires-clause-table g c =
+pub begin_turn-middle-requires-clause-aims : goal.begin_turn-middle-requires-clause-aims
+begin_turn-middle-requires-clause-aims g c =
     let may : MayTurnRoot c.args.rows.now c.enter.new.pass c.take_top_turn.new.pass c.expect-turn.result = search rules in
-    begun_of c.args.rows.now c.take_top_turn.new.pass c.begin_turn-middle.new.pass c.expect-turn.result c.begin_turn-middle.result may.taken.of c.begin_turn-middle.ensures
+    inl (may.taken.turn.upper.below.is_key, inl may.owes)
 
 pub end_turn-requires-clause-begun : goal.end_turn-requires-clause-begun
-end_turn-requires-clause-begun g c = (c.take_top_turn.new.pass, c.begin_turn-middle.ensures)
+end_turn-requires-clause-begun g c = (c.take_top_turn.new.pass, c.begin_turn-middle.ensures.begun)
 
 pub free_top-requires : goal.free_top-requires
 free_top-requires g c =
     let a = c.enter.new.pass in let b = c.take_top_turn.new.pass in let t = c.expect-turn.result in
     let may : MayTurnRoot c.args.rows.now a b t = search rules in
-    let turned = c.end_turn.ensures b c.begin_turn-middle.ensures in
+    let turned = c.end_turn.ensures b c.begin_turn-middle.ensures.begun in
     holds_top c.args.rows.now a b c.end_turn.new.pass false t t.parent.row t.row.row t.raised.row (ap (λ (k : Known). k.view.stage) c.enter.ensures.is) may.taken may.top turned.keeps
