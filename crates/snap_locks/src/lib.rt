@@ -5,6 +5,7 @@ ghost use Rattle.std.specs.Prelude.{◌≡◌, ◌⊎◌, ◌<◌, ◌≤◌, Bo
 ghost use Rattle.snap_locks.specs.Held.{HasLocked};
 ghost use Rattle.snap_prelude.specs.{Becomes, IsOf, Nothing, times, unlocked, Writing};
 
+use crossbeam_utils::Backoff;
 use snap_stamp::RowNo;
 use snap_steps::{Pass, Rows, free_lock, try_lock};
 use std::sync::Wait;
@@ -20,10 +21,12 @@ pub fn lock<R: Wait>(rows: &Rows, rt: &R, pass: &mut Pass, row: RowNo)
     requires reached { (row ≡ 0) ⊎ (0 < times row pass.old.view.trail.reached) }
     ensures { HasLocked pass.old pass.new row }
 {
+    let backoff = Backoff::new();
     for _ in rt.forever() {
         if try_lock(rows, pass, row) {
             return;
         }
+        backoff.snooze();
     }
     unreachable!()
 }

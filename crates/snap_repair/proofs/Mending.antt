@@ -141,6 +141,10 @@ read_looks a b r f x e = let s = loaded a b r f x e in (
   s.holds,
 )
 
+-- loads of three of its words
+pub reads_looks : (a b c d : Known) (r : ℕ) (f g h : Field) (x y z : ℕ) → Becomes a b (read a.view r f x) → Becomes b c (read b.view r g y) → Becomes c d (read c.view r h z) → Looks a d
+reads_looks a b c d r f g h x y z first second third = looks_on a c d (looks_on a b c (read_looks a b r f x first) (read_looks b c r g y second)) (read_looks c d r h z third)
+
 -- a load of the epoch
 pub epoch_looks : (a b : Known) (x : ℕ) → Becomes a b (epoch_noted a.view x) → Looks a b
 epoch_looks a b x e = (

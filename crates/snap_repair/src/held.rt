@@ -7,17 +7,19 @@ ghost use Rattle.snap_shape.specs.Grips.{HasGrip, Leads};
 ghost use Rattle.snap_prelude.specs.{Among, count_of, HasHeight, IsOf, last_count, MayAimAt, Right};
 
 use crate::look::Look;
+use crate::rising::Task;
 use snap_locks::{lock, unlock};
 use snap_search::Ending;
 use snap_shape::{Grip, child_of};
-use snap_stamp::{Field, Key, RowNo, Side, Stamp};
-use snap_steps::{Pass, Rows, aim, load_birth, load_epoch, load_height, load_key, load_word};
+use snap_stamp::{Field, RowNo, Side, Stamp};
+use snap_steps::{Pass, Rows, aim, load_birth, load_height, load_key, load_word};
 use std::sync::Wait;
 
 /// The key and the stamp of a held row, where it has no mark and is row 0 or of this epoch.
-pub fn grip_of(rows: &Rows, pass: &mut Pass, row: RowNo) -> Option<Grip>
+pub fn grip_of(rows: &Rows, pass: &mut Pass, row: RowNo, epoch: u64) -> Option<Grip>
     requires table { IsOf pass.old rows.now }
     requires mending { IsMending pass.old.view }
+    requires epoch { Among epoch pass.old.view.words.present }
     requires row { row ≤ rows.now.rows }
     requires held { Among row pass.old.view.holds }
     requires reached { IsReached pass.old.view row }
@@ -25,7 +27,6 @@ pub fn grip_of(rows: &Rows, pass: &mut Pass, row: RowNo) -> Option<Grip>
     ensures grip { MatchOption result (Looks pass.old pass.new)
         (λ g. (g.row ≡ row) × HasGrip pass.new.view g) }
 {
-    let epoch = load_epoch(rows, pass);
     let birth = load_word(rows, pass, row, Field::Birth);
     let stamp = load_word(rows, pass, row, Field::Stamp);
     let key = load_key(rows, pass, row);
@@ -52,11 +53,12 @@ pub fn leads_to(rows: &Rows, pass: &mut Pass, parent: &Grip, side: Side, row: Ro
 }
 
 /// Whether the to-do key may come to be the row's: it is, or the row is still the last of this epoch on its way.
-pub fn may_aim(rows: &Rows, pass: &mut Pass, key: Key, end: &Ending, row: &Grip) -> bool
+pub fn may_aim(rows: &Rows, pass: &mut Pass, task: &Task, end: &Ending, row: &Grip) -> bool
     requires table { IsOf pass.old rows.now }
     requires mending { IsMending pass.old.view }
-    requires to_do { pass.old.view.debt.to_do ≡ Some key }
-    requires ends { MayEndOn rows.now.rows pass.old.view key end.now }
+    requires to_do { pass.old.view.debt.to_do ≡ Some task.now.key }
+    requires epoch { Among task.now.epoch pass.old.view.words.present }
+    requires ends { MayEndOn rows.now.rows pass.old.view task.now.key end.now }
     requires row { (row.now.row ≡ end.now.row) × (row.now.row ≢ 0) }
     requires grip { HasGrip pass.old.view row.now }
     ensures looks { Looks pass.old pass.new }
@@ -64,19 +66,21 @@ pub fn may_aim(rows: &Rows, pass: &mut Pass, key: Key, end: &Ending, row: &Grip)
 {
     let (side, stamp, here) = (end.side, end.stamp, end.here);
     let (row_key, found) = (row.key, row.stamp);
+    let Task { key, epoch } = *task;
     if row_key == key {
         return true;
     }
     if here || found != stamp {
         return false;
     }
-    ends_below(rows, pass, row, side)
+    ends_below(rows, pass, row, side, epoch)
 }
 
 // Whether the link of a held row is 0 or leads to a row of an earlier epoch.
-fn ends_below(rows: &Rows, pass: &mut Pass, row: &Grip, side: Side) -> bool
+fn ends_below(rows: &Rows, pass: &mut Pass, row: &Grip, side: Side, epoch: u64) -> bool
     requires table { IsOf pass.old rows.now }
     requires mending { IsMending pass.old.view }
+    requires epoch { Among epoch pass.old.view.words.present }
     requires row { row.now.row ≤ rows.now.rows }
     requires grip { HasGrip pass.old.view row.now }
     requires on_right { row.now.row ≡ 0 → side ≡ Right }
@@ -87,32 +91,33 @@ fn ends_below(rows: &Rows, pass: &mut Pass, row: &Grip, side: Side) -> bool
     if child.is_none() {
         return true;
     }
-    let epoch = load_epoch(rows, pass);
     load_birth(rows, pass, child) < epoch
 }
 
 /// At row 0 nothing is left to do, where the way of the to-do key still ends there.
-pub fn end_at_top<R: Wait>(rows: &Rows, rt: &R, pass: &mut Pass, key: Key, end: &Ending)
+pub fn end_at_top<R: Wait>(rows: &Rows, rt: &R, pass: &mut Pass, task: &Task, end: &Ending)
     requires table { IsOf pass.old rows.now }
     requires mending { IsMending pass.old.view }
     requires free { pass.old.view.holds ≡ [] }
-    requires to_do { pass.old.view.debt.to_do ≡ Some key }
-    requires ends { MayEndOn rows.now.rows pass.old.view key end.now }
+    requires to_do { pass.old.view.debt.to_do ≡ Some task.now.key }
+    requires epoch { Among task.now.epoch pass.old.view.words.present }
+    requires ends { MayEndOn rows.now.rows pass.old.view task.now.key end.now }
     requires row { end.now.row ≡ 0 }
     ensures { Mends pass.old pass.new × (pass.new.view.holds ≡ pass.old.view.holds) }
 {
     let top = end.row;
     lock(rows, rt, pass, top);
-    at_top(rows, pass, key, end);
+    at_top(rows, pass, task, end);
     unlock(rows, pass, top);
 }
 
-fn at_top(rows: &Rows, pass: &mut Pass, key: Key, end: &Ending)
+fn at_top(rows: &Rows, pass: &mut Pass, task: &Task, end: &Ending)
     requires table { IsOf pass.old rows.now }
     requires mending { IsMending pass.old.view }
     requires held { pass.old.view.holds ≡ end.now.row ∷ [] }
-    requires to_do { pass.old.view.debt.to_do ≡ Some key }
-    requires ends { MayEndOn rows.now.rows pass.old.view key end.now }
+    requires to_do { pass.old.view.debt.to_do ≡ Some task.now.key }
+    requires epoch { Among task.now.epoch pass.old.view.words.present }
+    requires ends { MayEndOn rows.now.rows pass.old.view task.now.key end.now }
     requires row { end.now.row ≡ 0 }
     ensures { Mends pass.old pass.new × (pass.new.view.holds ≡ pass.old.view.holds) }
 {
@@ -124,14 +129,15 @@ fn at_top(rows: &Rows, pass: &mut Pass, key: Key, end: &Ending)
         above: _,
         above_side: _,
     } = *end;
-    let Some(top) = grip_of(rows, pass, row) else {
+    let Task { key, epoch } = *task;
+    let Some(top) = grip_of(rows, pass, row, epoch) else {
         return;
     };
     let found = top.stamp;
     if here || found != stamp {
         return;
     }
-    if ends_below(rows, pass, &top, side) {
+    if ends_below(rows, pass, &top, side, epoch) {
         aim(rows, pass, row, key);
     }
 }

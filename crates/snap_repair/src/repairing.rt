@@ -6,24 +6,23 @@ ghost use Rattle.std.specs.Prelude.{◌≡◌, ◌≢◌, [], ◌∷◌, Some, N
 ghost use Rattle.snap_repair.specs.{Answers.IsMending, Answers.Repairs, Answers.TriesRepair, Rising.MayEndOn};
 ghost use Rattle.snap_search.specs.Prelude.{IsWay};
 ghost use Rattle.snap_shape.specs.Grips.{HasGrip, Leads};
-ghost use Rattle.snap_prelude.specs.{IsOf};
+ghost use Rattle.snap_prelude.specs.{Among, IsOf};
 
 use crate::answer::Repaired;
 use crate::held::{end_at_top, grip_of, leads_to, may_aim};
-use crate::rising::{check_way, next_row};
+use crate::rising::{Task, check_way, next_row};
 use crate::settling::settle;
 use snap_locks::{lock, unlock};
 use snap_search::{Ending, Way};
 use snap_shape::{Edge, Grip};
-use snap_stamp::Key;
-use snap_steps::{Pass, Rows, aim};
+use snap_steps::{Pass, Rows, aim, load_epoch};
 use std::sync::Wait;
 
 /// Repairs what the pass owes. `Done`: it owes nothing. Else it says why rows are left unsettled, for good: `RowsOut`
-/// exactly where a copy of this call found that every row was handed out, and `StampOut` where this call found the stamp
-/// of a row that it held, and was to lower, at the greatest count. No entry is made, each row that was drawn is linked,
-/// and no row is held afterwards. It begins at the lowest row that `way` keeps, where that has the to-do key, as it has
-/// behind the write that kept it.
+/// exactly where a copy of this call found that every row was handed out, and `StampOut` where this call found the
+/// stamp of a row that it held, and was to lower, at the greatest count. No entry is made, each row that was drawn is
+/// linked, and no row is held afterwards. It begins at the lowest row that `way` keeps, or one of the two below it,
+/// where that has the to-do key, as it has behind the write that kept them.
 pub fn repair<R: Wait>(rows: &Rows, rt: &R, pass: &mut Pass, way: &mut Way) -> Repaired
     requires table { IsOf pass.old rows.now }
     requires mending { IsMending pass.old.view }
@@ -31,40 +30,49 @@ pub fn repair<R: Wait>(rows: &Rows, rt: &R, pass: &mut Pass, way: &mut Way) -> R
     requires way { IsWay rows.now.rows pass.old.view way.old }
     ensures { Repairs rows.now.rows pass.old pass.new result }
 {
+    // Where nothing is owed, nothing is loaded. Else this is the epoch until the write ends, so it is loaded once.
+    if pass.to_do().is_none() {
+        return Repaired::Done;
+    }
+    let epoch = load_epoch(rows, pass);
     for _ in rt.forever() {
         let Some(key) = pass.to_do() else {
             return Repaired::Done;
         };
-        if let Some(why) = try_repair(rows, rt, pass, key, way) {
+        let task = Task { key, epoch };
+        if let Some(why) = try_repair(rows, rt, pass, &task, way) {
             return why;
         }
     }
     unreachable!()
 }
 
-// One turn: the last row of this epoch on the way of the to-do key is repaired, or it is looked for again.
+// One turn: the row with the to-do key, or the last one of this epoch on its way, is repaired where it still is as it
+// was found.
 fn try_repair<R: Wait>(
     rows: &Rows,
     rt: &R,
     pass: &mut Pass,
-    key: Key,
+    task: &Task,
     way: &mut Way,
 ) -> Option<Repaired>
     requires table { IsOf pass.old rows.now }
     requires mending { IsMending pass.old.view }
     requires free { pass.old.view.holds ≡ [] }
-    requires to_do { pass.old.view.debt.to_do ≡ Some key }
+    requires to_do { pass.old.view.debt.to_do ≡ Some task.now.key }
+    requires epoch { Among task.now.epoch pass.old.view.words.present }
     requires way { IsWay rows.now.rows pass.old.view way.old }
     ensures tries { TriesRepair rows.now.rows pass.old pass.new result }
     ensures way { IsWay rows.now.rows pass.new.view way.new }
 {
+    let key = task.key;
     let end = next_row(rows, rt, pass, key, way);
     let row = end.row;
     if row.is_none() {
-        end_at_top(rows, rt, pass, key, &end);
+        end_at_top(rows, rt, pass, task, &end);
         return None;
     }
-    let why = take_rows(rows, rt, pass, key, &end);
+    let why = take_rows(rows, rt, pass, task, &end);
     let still = pass.to_do() == Some(key);
     check_way(way, still);
     why
@@ -75,20 +83,21 @@ fn take_rows<R: Wait>(
     rows: &Rows,
     rt: &R,
     pass: &mut Pass,
-    key: Key,
+    task: &Task,
     end: &Ending,
 ) -> Option<Repaired>
     requires table { IsOf pass.old rows.now }
     requires mending { IsMending pass.old.view }
     requires free { pass.old.view.holds ≡ [] }
-    requires to_do { pass.old.view.debt.to_do ≡ Some key }
-    requires ends { MayEndOn rows.now.rows pass.old.view key end.now }
+    requires to_do { pass.old.view.debt.to_do ≡ Some task.now.key }
+    requires epoch { Among task.now.epoch pass.old.view.words.present }
+    requires ends { MayEndOn rows.now.rows pass.old.view task.now.key end.now }
     requires row { end.now.row ≢ 0 }
     ensures { TriesRepair rows.now.rows pass.old pass.new result }
 {
     let above = end.above;
     lock(rows, rt, pass, above);
-    let why = at_parent(rows, rt, pass, key, end);
+    let why = at_parent(rows, rt, pass, task, end);
     unlock(rows, pass, above);
     why
 }
@@ -97,14 +106,15 @@ fn at_parent<R: Wait>(
     rows: &Rows,
     rt: &R,
     pass: &mut Pass,
-    key: Key,
+    task: &Task,
     end: &Ending,
 ) -> Option<Repaired>
     requires table { IsOf pass.old rows.now }
     requires mending { IsMending pass.old.view }
     requires held { pass.old.view.holds ≡ end.now.above ∷ [] }
-    requires to_do { pass.old.view.debt.to_do ≡ Some key }
-    requires ends { MayEndOn rows.now.rows pass.old.view key end.now }
+    requires to_do { pass.old.view.debt.to_do ≡ Some task.now.key }
+    requires epoch { Among task.now.epoch pass.old.view.words.present }
+    requires ends { MayEndOn rows.now.rows pass.old.view task.now.key end.now }
     requires row { end.now.row ≢ 0 }
     ensures { TriesRepair rows.now.rows pass.old pass.new result }
 {
@@ -112,14 +122,14 @@ fn at_parent<R: Wait>(
     if row == above {
         return None;
     }
-    let Some(parent) = grip_of(rows, pass, above) else {
+    let Some(parent) = grip_of(rows, pass, above, task.epoch) else {
         return None;
     };
     if !leads_to(rows, pass, &parent, side, row) {
         return None;
     }
     lock(rows, rt, pass, row);
-    let why = at_row(rows, rt, pass, key, end, &parent);
+    let why = at_row(rows, rt, pass, task, end, &parent);
     unlock(rows, pass, row);
     why
 }
@@ -128,26 +138,27 @@ fn at_row<R: Wait>(
     rows: &Rows,
     rt: &R,
     pass: &mut Pass,
-    key: Key,
+    task: &Task,
     end: &Ending,
     parent: &Grip,
 ) -> Option<Repaired>
     requires table { IsOf pass.old rows.now }
     requires mending { IsMending pass.old.view }
     requires held { pass.old.view.holds ≡ end.now.row ∷ end.now.above ∷ [] }
-    requires to_do { pass.old.view.debt.to_do ≡ Some key }
-    requires ends { MayEndOn rows.now.rows pass.old.view key end.now }
+    requires to_do { pass.old.view.debt.to_do ≡ Some task.now.key }
+    requires epoch { Among task.now.epoch pass.old.view.words.present }
+    requires ends { MayEndOn rows.now.rows pass.old.view task.now.key end.now }
     requires row { (end.now.row ≢ 0) × (end.now.row ≢ end.now.above) }
     requires parent { (parent.now.row ≡ end.now.above) × HasGrip pass.old.view parent.now
         × Leads pass.old.view end.now.above end.now.above_side end.now.row }
     ensures { TriesRepair rows.now.rows pass.old pass.new result }
 {
-    let (number, side) = (end.row, end.above_side);
-    let Some(row) = grip_of(rows, pass, number) else {
+    let (number, side, epoch) = (end.row, end.above_side, task.epoch);
+    let Some(row) = grip_of(rows, pass, number, epoch) else {
         return None;
     };
     let row_key = row.key;
-    if !may_aim(rows, pass, key, end, &row) {
+    if !may_aim(rows, pass, task, end, &row) {
         return None;
     }
     aim(rows, pass, number, row_key);
@@ -156,5 +167,5 @@ fn at_row<R: Wait>(
         side,
         child: row,
     };
-    settle(rows, rt, pass, &edge)
+    settle(rows, rt, pass, &edge, epoch)
 }

@@ -1,16 +1,23 @@
 //! Where a repair goes next: up the way that the search before it kept, or else by a new search.
-ghost use Rattle.std.specs.Prelude.{◌≡◌, Some, MatchOption};
+ghost use Rattle.std.specs.Prelude.{◌≡◌, ◌≢◌, Some, MatchOption};
 ghost use Rattle.snap_repair.specs.{Answers.IsMending, Mending.Looks, Rising.GoesTo, Rising.KeepsWay, Rising.MayEndOn};
 ghost use Rattle.snap_search.specs.Prelude.{IsWay};
-ghost use Rattle.snap_prelude.specs.{IsOf};
+ghost use Rattle.snap_prelude.specs.{IsOf, Toward};
 
 use snap_search::{Ending, Step, Way, find_to_repair};
 use snap_stamp::{Key, Side};
 use snap_steps::{Pass, Rows, load_key, load_word};
 use std::sync::Wait;
 
-/// The row to be repaired next, and the row above it, which is to be checked under its lock. As long as the to-do key is
-/// that of a row near the lowest one that `way` keeps, the root need not be visited again.
+/// What a turn is to do: it repairs a row on the way of the to-do key, in the epoch of the write.
+#[derive(Clone, Copy)]
+pub struct Task {
+    pub key: Key,
+    pub epoch: u64,
+}
+
+/// The row to be repaired next, and the row above it, which is to be checked under its lock. As long as the to-do key
+/// is that of a row near the lowest one that `way` keeps, the root need not be visited again.
 pub fn next_row<R: Wait>(rows: &Rows, rt: &R, pass: &mut Pass, key: Key, way: &mut Way) -> Ending
     requires table { IsOf pass.old rows.now }
     requires mending { IsMending pass.old.view }
@@ -25,19 +32,22 @@ pub fn next_row<R: Wait>(rows: &Rows, rt: &R, pass: &mut Pass, key: Key, way: &m
     find_to_repair(rows, rt, pass, key, way)
 }
 
-/// Lets go of the way where the key is still to do behind a turn: its rows may stand elsewhere now, so that no turn would
-/// come to an end by them.
+/// Lets go of the way where the key stays to do for a second turn. A rotation leaves it to do once: the row with the
+/// key was lowered, and stands two rows below the lowest that is kept. But where a turn came to nothing, since one of
+/// these rows stands elsewhere now, no turn by them would come to an end.
 pub fn check_way(way: &mut Way, still: bool)
     ensures { KeepsWay way.old way.new }
 {
-    if !still {
+    if still && way.stayed {
+        way.clear();
         return;
     }
-    way.clear();
+    way.stayed = still;
 }
 
-// The row with the key, as the end of a way, where it is the lowest that is kept or one of the two below that: it is the
-// lowest behind a turn that passed the key up, the one below it behind a write of a new key and behind two rotations.
+// The row with the key, as the end of a way, where it is the lowest that is kept or one of the two below that. It is
+// the lowest behind a write at that row and behind a turn that passed the key up; the one below it behind a put of a
+// new key; and the one below that behind a rotation, and behind a turn that found a child to be repaired first.
 fn near_row(rows: &Rows, pass: &mut Pass, key: Key, way: &mut Way) -> Option<Ending>
     requires table { IsOf pass.old rows.now }
     requires way { IsWay rows.now.rows pass.old.view way.old }
@@ -97,7 +107,9 @@ fn keep_child(rows: &Rows, pass: &mut Pass, key: Key, way: &mut Way) -> bool
 }
 
 // The side on which the way of a key goes on from a row. It ends at the row that has the key: there either side serves.
-fn side_from(row_key: Key, key: Key) -> Side {
+fn side_from(row_key: Key, key: Key) -> Side
+    ensures { row_key ≢ key → Toward result key row_key }
+{
     if row_key == key {
         Side::Right
     } else {

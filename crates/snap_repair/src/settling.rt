@@ -4,22 +4,29 @@ ghost use Rattle.snap_repair.specs.Answers.{IsMending, TriesRepair};
 ghost use Rattle.snap_repair.specs.Looking.{HasLook, IsEven, Routes};
 ghost use Rattle.snap_repair.specs.Raising.{Heightens, Lifts, RaisesFor, SetsRight};
 ghost use Rattle.snap_shape.specs.Grips.{IsEdge, IsWithin};
-ghost use Rattle.snap_prelude.specs.{IsOf, to_do_at};
+ghost use Rattle.snap_prelude.specs.{Among, IsOf, to_do_at};
 
 use crate::answer::Repaired;
 use crate::ending::{end_repair, may_end};
 use crate::held::look_at;
 use crate::look::{Look, height_due, is_routing, lean, only_child};
-use crate::tilting::tilt;
+use crate::tilting::{Leaning, tilt};
 use snap_shape::{Edge, unlink_child};
 use snap_steps::{Pass, Rows, pass_up, store_height};
 use std::sync::Wait;
 
 /// Does at a held row, whose key is the to-do key, what its words ask for: a routing row leaves its tree, a row that
 /// leans is turned, and any other gets its right height. At a settled row beside which nothing is owed the repair ends.
-pub fn settle<R: Wait>(rows: &Rows, rt: &R, pass: &mut Pass, edge: &Edge) -> Option<Repaired>
+pub fn settle<R: Wait>(
+    rows: &Rows,
+    rt: &R,
+    pass: &mut Pass,
+    edge: &Edge,
+    epoch: u64,
+) -> Option<Repaired>
     requires table { IsOf pass.old rows.now }
     requires mending { IsMending pass.old.view }
+    requires epoch { Among epoch pass.old.view.words.present }
     requires rows { IsWithin rows.now.rows edge.now }
     requires edge { IsEdge pass.old.view edge.now }
     requires two { pass.old.view.holds ≡ edge.now.child.row ∷ edge.now.parent.row ∷ [] }
@@ -34,7 +41,12 @@ pub fn settle<R: Wait>(rows: &Rows, rt: &R, pass: &mut Pass, edge: &Edge) -> Opt
         return None;
     }
     if let Some(higher) = lean(&look) {
-        return tilt(rows, rt, pass, edge, higher);
+        let leaning = Leaning {
+            edge: *edge,
+            higher,
+            epoch,
+        };
+        return tilt(rows, rt, pass, &leaning);
     }
     if may_end(pass, &row, &look) {
         end_repair(rows, pass, &row);

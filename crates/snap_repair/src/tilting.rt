@@ -20,26 +20,30 @@ use snap_steps::{Pass, Rows, aim};
 use std::snapshot::Snapshot;
 use std::sync::Wait;
 
+/// A held row of which one side is higher by two at least, below the held row above it, in the epoch of the write.
+#[derive(Clone, Copy)]
+pub struct Leaning {
+    pub edge: Edge,
+    pub higher: Side,
+    pub epoch: u64,
+}
+
 /// Turns a held row that leans: first its higher child is made one of this epoch and locked.
-pub fn tilt<R: Wait>(
-    rows: &Rows,
-    rt: &R,
-    pass: &mut Pass,
-    edge: &Edge,
-    higher: Side,
-) -> Option<Repaired>
+pub fn tilt<R: Wait>(rows: &Rows, rt: &R, pass: &mut Pass, leaning: &Leaning) -> Option<Repaired>
     requires table { IsOf pass.old rows.now }
     requires mending { IsMending pass.old.view }
-    requires rows { IsWithin rows.now.rows edge.now }
-    requires edge { IsEdge pass.old.view edge.now }
-    requires two { pass.old.view.holds ≡ edge.now.child.row ∷ edge.now.parent.row ∷ [] }
-    requires leans { Leans pass.old.view edge.now.child.row higher }
-    requires child { HasChildOn pass.old.view edge.now.child.row higher }
-    requires to_do { pass.old.view.debt.to_do ≡ Some edge.now.child.key }
+    requires epoch { Among leaning.now.epoch pass.old.view.words.present }
+    requires rows { IsWithin rows.now.rows leaning.now.edge }
+    requires edge { IsEdge pass.old.view leaning.now.edge }
+    requires two { pass.old.view.holds
+        ≡ leaning.now.edge.child.row ∷ leaning.now.edge.parent.row ∷ [] }
+    requires leans { Leans pass.old.view leaning.now.edge.child.row leaning.now.higher }
+    requires child { HasChildOn pass.old.view leaning.now.edge.child.row leaning.now.higher }
+    requires to_do { pass.old.view.debt.to_do ≡ Some leaning.now.edge.child.key }
     ensures { TriesRepair rows.now.rows pass.old pass.new result }
 {
-    let (upper, row) = (edge.parent.row, edge.child.row);
-    let child = match own_lower(rows, rt, pass, row, higher) {
+    let (upper, row) = (leaning.edge.parent.row, leaning.edge.child.row);
+    let child = match own_lower(rows, rt, pass, row, leaning.higher) {
         Ok(child) => child,
         Err(full) => {
             return Some(Repaired::RowsOut {
@@ -52,7 +56,7 @@ pub fn tilt<R: Wait>(
         return None;
     }
     lock(rows, rt, pass, child);
-    let why = at_child(rows, rt, pass, edge, higher, child);
+    let why = at_child(rows, rt, pass, leaning, child);
     unlock(rows, pass, child);
     why
 }
@@ -62,24 +66,26 @@ fn at_child<R: Wait>(
     rows: &Rows,
     rt: &R,
     pass: &mut Pass,
-    edge: &Edge,
-    higher: Side,
+    leaning: &Leaning,
     child: RowNo,
 ) -> Option<Repaired>
     requires table { IsOf pass.old rows.now }
     requires mending { IsMending pass.old.view }
-    requires rows { IsWithin rows.now.rows edge.now × (child ≤ rows.now.rows) }
-    requires edge { IsEdge pass.old.view edge.now }
-    requires three { pass.old.view.holds ≡ child ∷ edge.now.child.row ∷ edge.now.parent.row ∷ [] }
-    requires child { (child ≢ 0) × (child ≢ edge.now.child.row) × (child ≢ edge.now.parent.row)
-        × Among child pass.old.view.trail.reached }
-    requires leads { Leads pass.old.view edge.now.child.row higher child }
-    requires leans { Leans pass.old.view edge.now.child.row higher }
-    requires to_do { pass.old.view.debt.to_do ≡ Some edge.now.child.key }
+    requires epoch { Among leaning.now.epoch pass.old.view.words.present }
+    requires rows { IsWithin rows.now.rows leaning.now.edge × (child ≤ rows.now.rows) }
+    requires edge { IsEdge pass.old.view leaning.now.edge }
+    requires three { pass.old.view.holds
+        ≡ child ∷ leaning.now.edge.child.row ∷ leaning.now.edge.parent.row ∷ [] }
+    requires child { (child ≢ 0) × (child ≢ leaning.now.edge.child.row)
+        × (child ≢ leaning.now.edge.parent.row) × Among child pass.old.view.trail.reached }
+    requires leads { Leads pass.old.view leaning.now.edge.child.row leaning.now.higher child }
+    requires leans { Leans pass.old.view leaning.now.edge.child.row leaning.now.higher }
+    requires to_do { pass.old.view.debt.to_do ≡ Some leaning.now.edge.child.key }
     ensures { TriesRepair rows.now.rows pass.old pass.new result }
 {
-    let (row, key) = (edge.child.row, edge.child.key);
-    let Some(lower) = grip_of(rows, pass, child) else {
+    let (row, key) = (leaning.edge.child.row, leaning.edge.child.key);
+    let (higher, epoch) = (leaning.higher, leaning.epoch);
+    let Some(lower) = grip_of(rows, pass, child, epoch) else {
         return None;
     };
     let lower_key = lower.key;
@@ -88,11 +94,11 @@ fn at_child<R: Wait>(
         aim(rows, pass, child, lower_key);
         return None;
     }
-    let turn = turn_of(edge, higher, &lower);
+    let turn = turn_of(&leaning.edge, higher, &lower);
     let inner = height_at(&look, higher.other());
     let outer = height_at(&look, higher);
     if inner > outer {
-        return tilt_inner(rows, rt, pass, &turn);
+        return tilt_inner(rows, rt, pass, &turn, epoch);
     }
     if turn_row(rows, pass, &turn, key) {
         None
@@ -105,9 +111,16 @@ fn at_child<R: Wait>(
 }
 
 // The inner grandchild is higher: it is made one of this epoch and locked.
-fn tilt_inner<R: Wait>(rows: &Rows, rt: &R, pass: &mut Pass, turn: &Turn) -> Option<Repaired>
+fn tilt_inner<R: Wait>(
+    rows: &Rows,
+    rt: &R,
+    pass: &mut Pass,
+    turn: &Turn,
+    epoch: u64,
+) -> Option<Repaired>
     requires table { IsOf pass.old rows.now }
     requires mending { IsMending pass.old.view }
+    requires epoch { Among epoch pass.old.view.words.present }
     requires rows { AreWithin rows.now.rows turn.now }
     requires turn { IsTurning pass.old.view turn.now }
     requires three { pass.old.view.holds
@@ -133,15 +146,16 @@ fn tilt_inner<R: Wait>(rows: &Rows, rt: &R, pass: &mut Pass, turn: &Turn) -> Opt
         return None;
     }
     lock(rows, rt, pass, inner);
-    let why = at_inner(rows, pass, turn, inner);
+    let why = at_inner(rows, pass, turn, inner, epoch);
     unlock(rows, pass, inner);
     why
 }
 
 // The inner grandchild is held: where it is settled both rows are turned, and else it is repaired first.
-fn at_inner(rows: &Rows, pass: &mut Pass, turn: &Turn, inner: RowNo) -> Option<Repaired>
+fn at_inner(rows: &Rows, pass: &mut Pass, turn: &Turn, inner: RowNo, epoch: u64) -> Option<Repaired>
     requires table { IsOf pass.old rows.now }
     requires mending { IsMending pass.old.view }
+    requires epoch { Among epoch pass.old.view.words.present }
     requires rows { AreWithin rows.now.rows turn.now × (inner ≤ rows.now.rows) }
     requires turn { IsTurning pass.old.view turn.now }
     requires held { Among inner pass.old.view.holds }
@@ -154,7 +168,7 @@ fn at_inner(rows: &Rows, pass: &mut Pass, turn: &Turn, inner: RowNo) -> Option<R
     ensures { TriesRepair rows.now.rows pass.old pass.new result }
 {
     let (lower, lower_key) = (turn.raised.row, turn.raised.key);
-    let Some(raised) = grip_of(rows, pass, inner) else {
+    let Some(raised) = grip_of(rows, pass, inner, epoch) else {
         return None;
     };
     let raised_key = raised.key;
@@ -236,8 +250,8 @@ fn worn_row(rows: &Rows, pass: &mut Pass, turn: &Turn) -> Option<RowNo>
     None
 }
 
-// Of the row that the first of two rotations has lowered: it leaves the tree, or gets its height, and the to-do key goes
-// up to the row above it. Where it leans, which it does not by the heights that were loaded before, it is left as it is.
+// Of the row that the first of two rotations has lowered: it leaves the tree, or gets its height, and the to-do key
+// goes up to the row above it. Where it leans, as it can't by the heights that were loaded before, it is left so.
 fn drop_lowered(rows: &Rows, pass: &mut Pass, edge: &Edge) -> bool
     requires table { IsOf pass.old rows.now }
     requires mending { IsMending pass.old.view }
