@@ -1,4 +1,5 @@
--- The rows that lie ahead from a key on in an ordered tree: the last of them is the nearest, and behind it the way goes on below it.
+-- The rows that lie ahead from a key on in an ordered tree: the last of them is the nearest, and behind it the way goes
+-- on below it.
 use Rattle.std.proofs.Common.{◌≡◌, ℕ, ◌+◌, ◌<◌, ◌≤◌, ◌⊎◌, Bool, true, false, cond, inl, inr, List, [], ◌∷◌, ◌++◌, length, Option, Some, None, max, refl, sym, ap, ◌∙◌, subst, arith, length-append, append_assoc}
 use Rattle.snap_prelude.proofs.Common.{child, le-leb, lt-leb}
 use Rattle.snap_prelude.specs.{Between, depth, empty, IsSubtree, Left, Node}

@@ -1,7 +1,7 @@
 -- A search that passes the keys without a value.
 use Rattle.std.proofs.Common.{◌≡◌, ℕ, ◌+◌, ◌-◌, ◌<◌, ◌^◌, ◌⊎◌, inl, inr, Option, Some, None, sym, subst, arith}
 use Rattle.snap_prelude.proofs.Common.{dec_lt, dite}
-use Rattle.snap_prelude.specs.{Left, Right, Side, Toward}
+use Rattle.snap_prelude.specs.{after, at, Cloned, Left, Right, Side, Toward}
 use Rattle.snap_view.specs.Nearest.{Reaches, IsNearest, IsNearestAt, IsBehind}
 
 -- how many keys lie ahead
@@ -61,3 +61,21 @@ fewer_ahead has Left key row value None fits near e = omega arith
 fewer_ahead has Right key row value None fits near e = omega arith
 fewer_ahead has Left key row value (Some next) fits near e = omega (arith, near.lies)
 fewer_ahead has Right key row value (Some next) fits near e = omega (arith, near.lies)
+
+-- one turn of such a search, while the clone stays as it was: a row was met from the key on, and it goes on behind that
+module _ (now met : Cloned) (side : Side) (from key row : ℕ) (value reached next : Option ℕ) (same : met ≡ now) (is : reached ≡ Some key) (passed : HasPassed (at (after now.base)) side from reached) (near : IsNearest (at (after met.base)) side key (Some (row, value))) (behind : IsBehind side row next) where
+  abbrev has : ℕ → Option ℕ
+  has = at (after now.base)
+
+  passed_to : HasPassedTo has side from key
+  passed_to = subst (HasPassed has side from) is passed
+
+  nearest : IsNearest has side key (Some (row, value))
+  nearest = subst (λ (k : Cloned). IsNearest (at (after k.base)) side key (Some (row, value))) same near
+
+  pub turn_fewer : keys_ahead side next < keys_ahead side reached
+  turn_fewer = subst (λ (o : Option ℕ). keys_ahead side next < keys_ahead side o) (sym is) (fewer_ahead has side key row value next passed_to.fits nearest behind)
+
+  -- where the row has no value
+  pub turn_passed : value ≡ None → HasPassed (at (after now.base)) side from next
+  turn_passed none = passed_on has side from key passed_to row next (subst (λ (o : Option ℕ). IsNearest has side key (Some (row, o))) none nearest) behind

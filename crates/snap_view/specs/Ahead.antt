@@ -27,7 +27,8 @@ met side from copy = if_ahead side from
 -- so many rows were added, or they are lost, since they were too many
 pub record AddsAhead (old new : RowsAhead) (more : List Ahead) : Type 0 where
   pub kept : new.lost ≡ false → (old.lost ≡ false) × (new.rows.items ≡ old.rows.items ++ more)
-  pub lost : new.lost ≡ true → (old.lost ≡ true) ⊎ (most_levels < length old.rows.items + length more)
+  pub lost : new.lost ≡ true
+      → (old.lost ≡ true) ⊎ (most_levels < length old.rows.items + length more)
 
 -- the rows are those that lie ahead from this key on, and only in a deep tree they are lost
 pub record AreAhead (side : Side) (from : ℕ) (t : Tree) (ahead : RowsAhead) : Type 0 where

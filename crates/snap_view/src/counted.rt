@@ -11,8 +11,9 @@ use snap_steps::Steps;
 use std::sync::ledger::Ledger;
 
 impl<'t> TableView<'t> {
-    /// `first`, with a counter of the rows that it reads. Where the clone's tree is settled they are no more than two ways
-    /// down have, and so are those of the calls below; else each row without a value that is passed costs one way more.
+    /// `first`, with a counter of the rows that it reads. Where the clone's tree is settled they are no more than two
+    /// ways down have, and so are those of the calls below; else each row without a value that is passed costs one way
+    /// more.
     pub fn first_counted<L: Ledger>(&mut self, steps: &mut Steps<L>) -> Option<(Key, u64)>
         ensures first { result ≡ first_pair (after self.old.base) }
         ensures view { self.new ≡ self.old }

@@ -34,9 +34,9 @@ impl<'t> TableView<'t> {
         found
     }
 
-    /// How many rows stand on the longest way down, 0 for an empty clone. In a tree of at most 64 levels it reads each row
-    /// once; a deeper one is gone down once for each row. A settled clone is no deeper than an AVL tree of twice its
-    /// pairs.
+    /// How many rows stand on the longest way down, 0 for an empty clone. In a tree of at most 64 levels it reads each
+    /// row once; a deeper one is gone down once for each row. A settled clone is no deeper than an AVL tree of twice
+    /// its pairs.
     pub fn depth(&mut self) -> u32
         ensures depth { result ≡ depth (image self.old) }
         ensures low { result ≤ self.old.next }

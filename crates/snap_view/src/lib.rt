@@ -15,4 +15,4 @@ mod way;
 
 pub use balance::Settled;
 pub use table_view::TableView;
-pub use walk::Walk;
+pub use walk::{Ascend, Descend, Walk};

@@ -3,7 +3,7 @@ ghost use Rattle.std.specs.Prelude.{◌≡◌, ◌≤◌, ◌<◌, ◌+◌, reve
 ghost use Rattle.snap_prelude.specs.{after, at, depth, image, IsCloneOf, IsSubtree, range, root, Tree};
 ghost use Rattle.snap_view.specs.{Readable.IsReadable, Walks.pairs_left, Tops.HasTree, Tops.IsTopOf, Tops.rows_read};
 
-use crate::walk::Walk;
+use crate::walk::{Ascend, Descend, Walk};
 use crate::way::below;
 use snap_stamp::{Key, RowNo, Side};
 use snap_steps::{RowCopy, Rows, Steps, ViewSeat, load_row};
@@ -122,7 +122,7 @@ impl<'t> TableView<'t> {
     }
 
     /// The pairs whose keys lie from `low` to `high`, by rising keys.
-    pub fn range(&mut self, low: Key, high: Key) -> Walk<'t>
+    pub fn range(&mut self, low: Key, high: Key) -> Ascend<'t>
         ensures pairs { pairs_left result ≡ range (after self.old.base) low high }
         ensures view { self.new ≡ self.old }
     {
@@ -130,7 +130,7 @@ impl<'t> TableView<'t> {
     }
 
     /// The pairs whose keys lie from `low` to `high`, by falling keys.
-    pub fn range_down(&mut self, low: Key, high: Key) -> Walk<'t>
+    pub fn range_down(&mut self, low: Key, high: Key) -> Descend<'t>
         ensures pairs { pairs_left result ≡ reverse (range (after self.old.base) low high) }
         ensures view { self.new ≡ self.old }
     {
@@ -138,7 +138,7 @@ impl<'t> TableView<'t> {
     }
 
     /// All pairs, by rising keys.
-    pub fn pairs(&mut self) -> Walk<'t>
+    pub fn pairs(&mut self) -> Ascend<'t>
         ensures pairs { pairs_left result ≡ after self.old.base }
         ensures view { self.new ≡ self.old }
     {

@@ -9,8 +9,8 @@ use snap_stamp::{Key, Side};
 use std::marker::{Brand, Model};
 use std::sync::ledger::Blank;
 
-/// The pairs of a clone whose keys lie in a range, toward one side. In a tree of at most 64 levels each row is read once
-/// on the way through them; in a deeper one each pair may be looked for from the clone's root.
+/// The pairs of a clone whose keys lie in a range, toward one side. In a tree of at most 64 levels each row is read
+/// once on the way through them; in a deeper one each pair may be looked for from the clone's root.
 #[derive(Drop)]
 pub struct Walk<'t> {
     view: TableView<'t>,
@@ -19,6 +19,12 @@ pub struct Walk<'t> {
     bound: Key,
     ahead: RowsAhead,
 }
+
+/// The pairs of a range by rising keys.
+pub type Ascend<'t> = Walk<'t>;
+
+/// The pairs of a range by falling keys.
+pub type Descend<'t> = Walk<'t>;
 
 impl<'t> Model for Walk<'t> {
     ghost use Rattle.snap_prelude.specs.{image};

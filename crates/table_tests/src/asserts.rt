@@ -1,5 +1,5 @@
-//! What a test says of a value, in functions of their own: an `assert_eq!` makes the function that it stands in longer to
-//! prove, by more the longer that is.
+//! What a test says of a value, in functions of their own: an `assert_eq!` makes the function that it stands in longer
+//! to prove, by more the longer that is.
 use std::fmt;
 use std::process::Abort;
 

@@ -11,8 +11,8 @@ use std::sync::Wait;
 use std::test::Fail;
 use std::thread;
 
-// Checks each case, and answers how many there are. A case is a number of rows and the words to follow, `~`, and what is
-// shown of the table then; `|` stands between cases.
+// Checks each case, and answers how many there are. A case is a number of rows and the words to follow, `~`, and what
+// is shown of the table then; `|` stands between cases.
 fn hold<R: Abort + Wait>(rt: &R, alloc: Global, cases: &str) -> u32 {
     let mut count = 0u32;
     let mut rest = Some(cases);
@@ -33,8 +33,8 @@ fn hold<R: Abort + Wait>(rt: &R, alloc: Global, cases: &str) -> u32 {
     count
 }
 
-// The depth, the balance and the keys of a clone, and the rows that were drawn before it, once the words were followed on
-// a table of so many rows.
+// The depth, the balance and the keys of a clone, and the rows that were drawn before it, once the words were followed
+// on a table of so many rows.
 fn shown<R: Wait>(rt: &R, alloc: Global, words: &str) -> Result<String, AllocError> {
     let (rows, words) = words.split_once(' ').unwrap_or((words, ""));
     let rows = number(rows).max(1) as u32;
@@ -89,7 +89,8 @@ fn follow<R: Wait>(table: &SnapTable, rt: &R, pass: &mut Pass, words: &str) -> b
 
 fn follow_word<R: Wait>(table: &SnapTable, rt: &R, pass: &mut Pass, word: &str) -> bool
     requires ready { (most : _) × IsReadyTo table.now 0 most pass.old × (most < 20) }
-    ensures { (most : _) → IsReadyTo table.now 0 most pass.old → IsReadyTo table.now 0 (most + 1) pass.new }
+    ensures { (most : _) → IsReadyTo table.now 0 most pass.old
+        → IsReadyTo table.now 0 (most + 1) pass.new }
 {
     if word == "clone" {
         table.clone_view(rt, pass).release();

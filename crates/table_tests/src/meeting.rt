@@ -11,8 +11,8 @@ use std::sync::Wait;
 use std::test::Fail;
 use std::thread;
 
-// Puts each second key from the thread's number on, and removes the fourth before it. Answers how many of the writes found
-// what the thread had left there.
+// Puts each second key from the thread's number on, and removes the fourth before it. Answers how many of the writes
+// found what the thread had left there.
 fn put_and_remove<R: Wait + Abort>(
     table: &SnapTable,
     rt: &R,

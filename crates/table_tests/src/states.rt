@@ -1,14 +1,14 @@
 //! What a thread that writes keys of its own has done, and what a clone shows of that.
 //!
-//! A thread's keys are its number, and each fourth from there. Its writes come in rounds of eight, and the value of a put
-//! is the number of its round.
+//! A thread's keys are its number, and each fourth from there. Its writes come in rounds of eight, and the value of a
+//! put is the number of its round.
 use snap_table::TableView;
 
 /// How many threads write.
 const THREADS: u64 = 4;
 
-/// The keys that one thread alone writes, by their places from 0 on. At each turn comes the place that lies `step` further,
-/// and behind the last the first; `back` times a place is its turn.
+/// The keys that one thread alone writes, by their places from 0 on. At each turn comes the place that lies `step`
+/// further, and behind the last the first; `back` times a place is its turn.
 #[derive(Clone, Copy)]
 pub(crate) struct Keys {
     pub(crate) who: u32,
@@ -55,8 +55,8 @@ pub(crate) fn few_are_put(round: u64) -> bool {
     round % 2 == 0
 }
 
-/// The values at a thread's few keys after so many of its writes: at each key that of the last round that has written it,
-/// where that put.
+/// The values at a thread's few keys after so many of its writes: at each key that of the last round that has written
+/// it, where that put.
 pub(crate) fn few_after(writes: u64) -> Few {
     let (round, done) = (writes / 8, writes % 8);
     let mut values = [None; 4];

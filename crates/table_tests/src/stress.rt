@@ -31,8 +31,8 @@ fn greatest_depth(rows: u64) -> u32 {
     depth
 }
 
-// Whether the clone of so many pairs is settled, and no deeper than its rows need. A row without a value has two children,
-// so there are fewer of them than pairs.
+// Whether the clone of so many pairs is settled, and no deeper than its rows need. A row without a value has two
+// children, so there are fewer of them than pairs.
 fn is_balanced(view: &mut TableView<'_>, pairs: u64) -> bool {
     let rows = pairs.saturating_add(pairs.saturating_sub(1));
     matches!(view.settled(), Settled::Yes) && view.depth() <= greatest_depth(rows)
@@ -129,7 +129,8 @@ fn clones_well<R: Wait>(
     round: u64,
 ) -> bool
     requires ready { (most : _) × IsReadyTo table.now who most pass.old × (most < 20000) }
-    ensures { (most : _) → IsReadyTo table.now who most pass.old → IsReadyTo table.now who (most + 1) pass.new }
+    ensures { (most : _) → IsReadyTo table.now who most pass.old
+        → IsReadyTo table.now who (most + 1) pass.new }
 {
     let writes = round.saturating_add(1).saturating_mul(8);
     let mut view = table.clone_view(rt, pass);
