@@ -24,11 +24,6 @@ straight {X} n back fronts P many is h i d l =
     let x : get_or fronts i d ≡ get_or back j d = ap (λ (m : List X). get_or m i d) is ∙ get_or-reverse back i d (omega (arith, l, many)) in
     subst (P i) (sym x) (h j i (get_or back j d) (omega (arith, l, many)) (slice_get-get_or back j d lj))
 
--- something that a list has
-pub some_of : {X : Type 0} (xs : List X) (i : ℕ) → i < length xs → X
-some_of [] i l = absurd (omega (arith, l))
-some_of (x ∷ xs) i l = x
-
 -- the last kit taken off the new ones
 module _ (laid : List Laid) (all left : List (List Known)) (own : List Known) (n kits : ℕ) (many : kits ≡ n + 1) (new : AreNewKits laid all kits) (is : all ≡ left ++ own ∷ []) where
   pub left_many : length left ≡ n

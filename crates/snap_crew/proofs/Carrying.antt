@@ -1,10 +1,10 @@
 -- What a crew came to, from what its workers left and what was collected.
-use Rattle.std.proofs.Common.{zero, suc, ◌≡◌, ◌<◌, ◌+◌, ◌++◌, ℕ, true, List, [], ◌∷◌, Option, Some, None, Result, Ok, Err, length, get_or, refl, ap, ap₂, sym, ◌∙◌, subst, arith}
+use Rattle.std.proofs.Common.{zero, suc, ◌≡◌, ◌<◌, ◌++◌, ℕ, true, List, [], ◌∷◌, Option, Some, None, Result, Ok, Err, length, get_or, refl, ap, ap₂, sym, ◌∙◌, subst, arith}
 use denote.Ref.{Bor}
 use Rattle.std.specs.Prelude.{All, IfOk, IfSome, IsOk, OnOk, map, slice_index_or}
 use Rattle.snap_prelude.proofs.Common.{get_or-map, length-map}
 use Rattle.snap_prelude.specs.{Command, Known}
-use Rattle.snap_desk.specs.{Answers.Answered, Collecting.IsCollected, Collecting.puts_of, Puts.AreFor, Puts.is_named}
+use Rattle.snap_desk.specs.{Answers.Answered, Collecting.IsCollected, Collecting.puts_of, Puts.AreFor}
 use Rattle.snap_desk.specs.{Puts.IsNamedIf, Puts.IsPutOut}
 use Rattle.snap_desk.specs.Files.{all_files_named, AllIn, answer_names, answers_in, AreFilesApart, AreBlank, files_named, IsAfter, KeepsOthers, names_in}
 use Rattle.snap_desk.proofs.{Filed.all_kept, Filed.same_kept, Names.all_in, Names.among_at, Names.among_left}
@@ -15,7 +15,7 @@ use Rattle.snap_outlet.specs.{declared.view.Parcel.Parcel}
 use Rattle.snap_service.specs.Prelude.{Tables}
 use Rattle.snap_text.specs.{LoadFiles.Loads, declared.script.Line.Line}
 use Rattle.snap_write.proofs.Written.{nothing_written}
-use Rattle.snap_write.specs.{Outputs.names_of, declared.unwritten.Unwritten.Unwritten}
+use Rattle.snap_write.specs.{Outputs.is_named, Outputs.names_of, declared.unwritten.Unwritten.Unwritten}
 use Rattle.snap_crew.specs.{Prelude.HasWorked, Prelude.IsCrew, Prelude.IsReplyAt, Prelude.script_commands, Prelude.Sits}
 use Rattle.snap_crew.specs.{Leaving.HasDone, Leaving.RunsAll, Ran.HasRunJobs, Ran.RunsCrew, declared.leaving.Done.Done}
 use Rattle.snap_crew.specs.{declared.scripts.Crew.Crew, declared.scripts.Ran.Ran, declared.seats.Seat.Seat}

@@ -62,23 +62,8 @@ of_slot (Some live) lo hi file some = refl
 
 -- the text that a command exports is that of what it exports
 pub file_exported : (s : SessionState) (loads : Loads) (w : ℕ) (c : Command) → CanRun s loads c → exported_file c (text_of s c) ≡ table_files (exported (course w s) c)
-file_exported s loads w (Command.Table name) can = refl
-file_exported s loads w (Command.Put key value) can = refl
-file_exported s loads w (Command.Remove key) can = refl
-file_exported s loads w (Command.Get key) can = refl
-file_exported s loads w (Command.Snap slot name) can = refl
-file_exported s loads w (Command.Forget slot name) can = refl
-file_exported s loads w (Command.See slot key) can = refl
-file_exported s loads w (Command.First slot) can = refl
-file_exported s loads w (Command.Last slot) can = refl
-file_exported s loads w (Command.Floor slot key) can = refl
-file_exported s loads w (Command.Lower slot key) can = refl
-file_exported s loads w (Command.Ceiling slot key) can = refl
-file_exported s loads w (Command.Higher slot key) can = refl
-file_exported s loads w (Command.Count slot lo hi) can = refl
-file_exported s loads w (Command.Depth slot) can = refl
 file_exported s loads w (Command.Export slot lo hi file) can = of_slot (clone_at s slot) lo hi file can
-file_exported s loads w (Command.Load file) can = refl
+file_exported s loads w _ can = refl
 
 -- one command more
 pub lines_more : (cs : List Command) (rs : List Reply) (c : Command) (r : Reply) → length cs ≡ length rs → lines_with (cs ++ c ∷ []) (rs ++ r ∷ []) ≡ lines_with cs rs ++ reply_text c r
@@ -92,20 +77,9 @@ fulls_more [] r = omega arith
 fulls_more (x ∷ rs) r = omega (arith, fulls_more rs r)
 
 one_full : (r : Reply) → full_of r ≤ 1
-one_full Reply.New = omega arith
-one_full (Reply.Old v) = omega arith
-one_full Reply.Absent = omega arith
-one_full (Reply.Value v) = omega arith
-one_full (Reply.Pair k v) = omega arith
-one_full (Reply.Count n) = omega arith
-one_full (Reply.Depth d p s) = omega arith
-one_full (Reply.Exported n) = omega arith
-one_full (Reply.Loaded n) = omega arith
 one_full Reply.Full = omega arith
 one_full (Reply.FullAfter n) = omega arith
-one_full Reply.Snapped = omega arith
-one_full Reply.Forgotten = omega arith
-one_full Reply.Using = omega arith
+one_full _ = omega arith
 
 pub few_fulls : (rs : List Reply) → fulls_with rs ≤ length rs
 few_fulls [] = omega arith

@@ -1,14 +1,16 @@
 -- A worker at its desk: one command more.
 use Rattle.std.proofs.Common.{zero, suc, ◌≡◌, ◌≤◌, ◌<◌, ◌+◌, ◌++◌, ℕ, List, [], ◌∷◌, Option, Some, None, length, get_or, take, refl, ap, ap₂, sym, ◌∙◌, subst, append_assoc, append-nil, arith}
-use Rattle.snap_prelude.proofs.Common.{map-append, take_all, take_more}
+use Rattle.snap_prelude.proofs.Common.{take_all, take_more}
 use Rattle.snap_desk.specs.{Answers.Answered, Answers.exported_file, Files.AllIn, Files.AllOthers, Files.files_named}
-use Rattle.snap_desk.specs.{Puts.AreCountedFrom, Puts.AreFor, Puts.AreIn, Puts.AreOthers, Puts.HoldsAnswered}
-use Rattle.snap_desk.specs.{Puts.IsCounted, Puts.IsNamedIf, Puts.IsPutOut, Puts.IsSame, declared.desk.Desk.Desk}
+use Rattle.snap_desk.specs.{Puts.AreCountedFrom, Puts.AreFor, Puts.AreIn, Puts.AreOthers, Puts.GoesOnPutting}
+use Rattle.snap_desk.specs.{Puts.HoldsAnswered, Puts.IsNamedIf, Puts.IsPutOut, declared.desk.Desk.Desk}
 use Rattle.snap_outlet.specs.{Posts.put_at, declared.piece.Piece.Piece}
 use Rattle.snap_prelude.specs.{Command}
 use Rattle.snap_service.specs.Prelude.{SessionState}
 use Rattle.snap_text.specs.LoadFiles.{Loads}
 use Rattle.snap_write.specs.Outputs.{Outputs, names_of}
+use Rattle.snap_write.proofs.Written.{names_of-append}
+use Rattle.snap_desk.proofs.Putting.{same_more}
 use Rattle.snap_crew.specs.{Prelude.CanWork, Seats.HasAnswered, Seats.IsBlank, Seats.KeepsTo}
 use Rattle.snap_crew.proofs.Working.{IsAt, at_start, has_run}
 
@@ -35,9 +37,6 @@ pub other_at : (o : Option (List ℕ)) (cs : List Command) (i : ℕ) (c : Comman
 other_at o [] i c l is all = absurd (omega (arith, l))
 other_at o (x ∷ cs) zero c l is all = subst (λ (y : Command). AreOthers o (exported_file y [])) (sym is) all.0
 other_at o (x ∷ cs) (suc i) c l is all = other_at o cs i c (omega (arith, l)) is all.1
-
-names_append : (xs ys : Outputs) → names_of (xs ++ ys) ≡ names_of xs ++ names_of ys
-names_append xs ys = map-append (λ output. output.0) xs ys
 
 named_push : (cs : List Command) (c : Command) → files_named (cs ++ c ∷ []) ≡ files_named cs ++ names_of (exported_file c [])
 named_push [] c = append-nil (names_of (exported_file c []))
@@ -75,29 +74,22 @@ desk_start loads w commands s d can h = record {
   keeps = keeps_start commands d h;
 }
 
--- what a worker's pieces are for, after one command more
-pub keeps_on : (commands : List Command) (i : ℕ) (c : Command) (d e f : Desk) (text : List ℕ) → i < length commands → c ≡ get_or commands i c → KeepsTo commands d e → IsSame e f
-    → ((names : List (List ℕ)) → IsNamedIf names e.reply → AreIn names (exported_file c text) → AreFor names (put_at e.post) → AreFor names (put_at f.post)) → (e.reply ≡ None → put_at f.post ≡ put_at e.post) → (IsCounted e → IsCounted f) → KeepsTo commands d f
-keeps_on commands i c d e f text l is h same pieces none counted = record {
-  same = (let k = h.same in record { reply = same.reply ∙ k.reply; who = same.who ∙ k.who; outlet = same.outlet ∙ k.outlet; sender = same.sender ∙ k.sender });
-  pieces = λ names ini all. pieces names (let k = h.same in subst (λ (o : Option (List ℕ)). IsNamedIf names o) (sym k.reply) ini) (any_text_in names c [] text (in_at names commands i c l is all)) (h.pieces names ini all);
-  none = λ no. none (let k = h.same in k.reply ∙ no) ∙ h.none no;
-  counted = counted h.counted;
+-- what a worker's pieces are for, after more of them
+pub keeps_more : (commands : List Command) (d e f : Desk) (outputs : Outputs) → ((names : List (List ℕ)) → AllIn names commands → AreIn names outputs) → KeepsTo commands d e → GoesOnPutting e f outputs → (e.reply ≡ None → put_at f.post ≡ put_at e.post) → KeepsTo commands d f
+keeps_more commands d e f outputs within h k none = record {
+  same = same_more d e f h.same k.same;
+  pieces = λ names ini all. k.pieces names (let s = h.same in subst (λ (o : Option (List ℕ)). IsNamedIf names o) (sym s.reply) ini) (within names all) (h.pieces names ini all);
+  none = λ no. none (let s = h.same in s.reply ∙ no) ∙ h.none no;
+  counted = k.counted h.counted;
 }
 
--- the same at the end, with what was left
-pub keeps_end : (commands : List Command) (d e f : Desk) → KeepsTo commands d e → IsSame e f
-    → ((names : List (List ℕ)) → IsNamedIf names e.reply → AreFor names (put_at e.post) → AreFor names (put_at f.post)) → (e.reply ≡ None → put_at f.post ≡ put_at e.post) → (IsCounted e → IsCounted f) → KeepsTo commands d f
-keeps_end commands d e f h same pieces none counted = record {
-  same = (let k = h.same in record { reply = same.reply ∙ k.reply; who = same.who ∙ k.who; outlet = same.outlet ∙ k.outlet; sender = same.sender ∙ k.sender });
-  pieces = λ names ini all. pieces names (let k = h.same in subst (λ (o : Option (List ℕ)). IsNamedIf names o) (sym k.reply) ini) (h.pieces names ini all);
-  none = λ no. none (let k = h.same in k.reply ∙ no) ∙ h.none no;
-  counted = counted h.counted;
-}
+-- after those of one command
+pub keeps_on : (commands : List Command) (i : ℕ) (c : Command) (d e f : Desk) (text : List ℕ) → i < length commands → c ≡ get_or commands i c → KeepsTo commands d e → GoesOnPutting e f (exported_file c text) → (e.reply ≡ None → put_at f.post ≡ put_at e.post) → KeepsTo commands d f
+keeps_on commands i c d e f text l is = keeps_more commands d e f (exported_file c text) (λ names all. any_text_in names c [] text (in_at names commands i c l is all))
 
 pub named_on : (commands : List Command) (i : ℕ) (c : Command) (exports : Outputs) (text : List ℕ) → i < length commands → c ≡ get_or commands i c → names_of exports ≡ files_named (take i commands) → names_of (exports ++ exported_file c text) ≡ files_named (take (i + 1) commands)
 named_on commands i c exports text l is h =
-    names_append exports (exported_file c text) ∙ ap₂ (λ (a b : List (List ℕ)). a ++ b) h (any_text_named c text [])
+    names_of-append exports (exported_file c text) ∙ ap₂ (λ (a b : List (List ℕ)). a ++ b) h (any_text_named c text [])
     ∙ sym (named_push (take i commands) c) ∙ sym (ap files_named (take_more commands i c l ∙ ap (λ (x : Command). take i commands ++ x ∷ []) (sym is)))
 
 pub has_answered : (loads : Loads) (w : ℕ) (commands : List Command) (i : ℕ) (first now : SessionState) (d e : Desk) → length commands ≤ i → IsAtDesk loads w commands i first now d e → HasAnswered loads w commands first now e

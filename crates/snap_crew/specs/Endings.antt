@@ -82,8 +82,8 @@ pub record IsFinished (names : List (List ℕ)) (rows : ℕ) (loads : Loads)
       (script_commands (slice_index_or scripts w d)) (slice_index_or answered w a)
   pub text : IsTextIf wanted f.last (fronts_of f.fronts 0)
 
--- a task is finished, and the files tell what its workers' commands came to, unless they could not be
--- written
+-- a task is finished, and the files tell what its workers' commands came to, unless they could not
+-- be written
 pub record Finishes (task : Task) (made : Result (Unit {0}) Unwritten) (old new : Option Files)
     (w0 w1 : ℕ) (f : Finished) : Type 0 where
   pub answered : List Answered

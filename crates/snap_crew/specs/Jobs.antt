@@ -2,9 +2,10 @@
 use Rattle.std.specs.Prelude.{◌≡◌, ◌≢◌, ◌<◌, ◌≤◌, ◌*◌, ◌^◌, ℕ, AllPairs, List, Option, length, slice_index_or}
 use denote.Ref.{Bor}
 use Rattle.snap_outlet.specs.{Outlets.new_sender, Outlets.new_taker, Outlets.OutletId, Posts.new_post}
-use Rattle.snap_prelude.specs.{Command}
+use Rattle.snap_prelude.specs.{Command, Known}
 use Rattle.snap_text.specs.{declared.script.Line.Line, LoadFiles.Loads}
-use Rattle.snap_service.specs.Prelude.{CanRunAll, free_slots, new_kit, new_session, SessionState, Tables}
+use Rattle.snap_service.specs.Prelude.{AreTables, CanRunAll, free_slots, new_kit, new_session, SessionState}
+use Rattle.snap_service.specs.Prelude.{Tables}
 use Rattle.snap_crew.specs.{Works.CanWork, Works.script_commands, Leaving.IsUnusedRoom, Seats.IsBlank, Seats.IsReplyAt}
 use Rattle.snap_crew.specs.{declared.crew.Job.Job, declared.scripts.Crew.Crew, declared.seats.Seat.Seat}
 
@@ -16,6 +17,11 @@ pub record IsRunnableOn (names : List (List ℕ)) (loads : Loads)
       → CanRunAll s loads commands
   pub few : length commands * 2 ^ 22 ≤ 2 ^ 47
 
+-- each of these scripts
+abbrev pub AreRunnableOn : List (List ℕ) → Loads → List (List Line) → Type 0
+AreRunnableOn names loads scripts = (i : ℕ) (d : List Line) → i < length scripts
+    → IsRunnableOn names loads (script_commands (slice_index_or scripts i d))
+
 -- scripts that workers can run on new tables of these names
 pub record IsTask (names : List (List ℕ)) (rows : ℕ) (loads : Loads)
     (scripts : List (List Line)) : Type 0 where
@@ -25,8 +31,18 @@ pub record IsTask (names : List (List ℕ)) (rows : ℕ) (loads : Loads)
   pub a_row : 1 ≤ rows
   pub few_rows : rows ≤ 1048576
   pub few : length scripts ≤ 32
-  pub scripts_run : (i : ℕ) (d : List Line) → i < length scripts
-      → IsRunnableOn names loads (script_commands (slice_index_or scripts i d))
+  pub scripts_run : AreRunnableOn names loads scripts
+
+-- a kit of new passes on these tables for each script, by its number, and scripts that can be run
+-- on them
+pub record AreKits (tables : Tables) (loads : Loads) (scripts : List (List Line))
+    (kits : List (List Known)) : Type 0 where
+  pub of_service : AreTables tables
+  pub a_kit_each : length kits ≡ length scripts
+  pub new : (i : ℕ) (d : List Known) → i < length scripts
+      → slice_index_or kits i d ≡ new_kit tables.laid i
+  pub scripts_run : AreRunnableOn tables.names loads scripts
+  pub few : length scripts ≤ 32
 
 -- the job of worker i on these tables: a session that was just opened with the kit of its number,
 -- and its commands

@@ -3,6 +3,7 @@ pub mod Works
 pub mod Seats
 pub mod Leaving
 pub mod Jobs
+pub mod Tasks
 pub mod Mirrors
 pub mod Ran
 pub mod Endings

@@ -1,8 +1,8 @@
 //! Workers at their seats, each in a thread of its own where one can be made, and one who takes their pieces meanwhile.
-ghost use Rattle.std.specs.Prelude.{◌≡◌, ◌<◌, ℕ, All, None, length, slice_index_or};
+ghost use Rattle.std.specs.Prelude.{◌<◌, ℕ, All, length, slice_index_or};
 ghost use Rattle.std.specs.Thread.{IsSync};
 ghost use Rattle.snap_crew.specs.Seats.{CanSit, HasSat};
-ghost use Rattle.snap_desk.specs.Collecting.{Drains, IsReadyToWrite};
+ghost use Rattle.snap_desk.specs.Collecting.{CanDrain, Drains, GoesOnWriting};
 
 use crate::seats::Seat;
 use crate::worker::work;
@@ -36,19 +36,7 @@ pub fn do_job<R: Wait, T: Turn>(
     requires { CanSit loads.now outlet.now seat.old }
     ensures { HasSat loads.now seat.old seat.new }
 {
-    let script = seat.job.script;
-    let who = seat.job.who;
-    seat.came = work(
-        rt,
-        alloc,
-        &mut seat.job.session,
-        script,
-        loads,
-        who,
-        turn,
-        outlet,
-        &mut seat.desk,
-    );
+    seat.came = work(rt, alloc, loads, turn, outlet, seat);
 }
 
 /// Each job by a worker of its own, in a thread where one can be made; where none can, the caller does it.
@@ -87,16 +75,13 @@ pub fn do_beside<R: Threads + Wait + Sync, S: Shelf, T: Turn + Sync>(
     seats: &mut [Seat<'_>],
 )
     requires seats { All (CanSit loads.now outlet.now) seats.old }
-    requires outlet { collector.old.taker.outlet ≡ outlet.now }
-    requires ready { IsReadyToWrite collector.old (S.files shelf.old) }
+    requires can { CanDrain collector.old outlet.now (S.files shelf.old) }
     ensures sat { (i : ℕ) (d : _) → i < length seats.old
         → HasSat loads.now (slice_index_or seats.old i d) (slice_index_or seats.new i d) }
     ensures drains { Drains collector.old collector.new (S.files shelf.old) (S.files shelf.new)
         (S.write_faults shelf.old) (S.write_faults shelf.new) }
-    ensures ready { IsReadyToWrite collector.new (S.files shelf.new) }
-    ensures reads { S.read_faults shelf.new ≡ S.read_faults shelf.old }
-    ensures none { collector.old.names ≡ None
-        → (shelf.new ≡ shelf.old) × (collector.new.written ≡ collector.old.written) }
+    ensures goes_on { GoesOnWriting S.files S.read_faults collector.old collector.new
+        shelf.old shelf.new }
 {
     let bell = Bell::new();
     thread::join_mut(

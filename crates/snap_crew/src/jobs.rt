@@ -1,7 +1,6 @@
 //! The jobs of a run: a session for each script.
 ghost use Rattle.std.specs.Prelude.{◌≡◌, ◌<◌, ℕ, IfOk, length, slice_index_or};
-ghost use Rattle.snap_crew.specs.{Jobs.IsJob, Jobs.IsRunnableOn, Works.script_commands};
-ghost use Rattle.snap_service.specs.Prelude.{AreTables, new_kit};
+ghost use Rattle.snap_crew.specs.{Jobs.AreKits, Jobs.IsJob, Works.script_commands};
 
 use crate::crew::Job;
 use snap_model::OutOfMemory;
@@ -17,13 +16,7 @@ pub fn open_jobs<'t>(
     scripts: &'t [Script],
     loads: &Loads,
 ) -> Result<Vec<Job<'t>>, OutOfMemory>
-    requires tables { AreTables service.now }
-    requires a_kit_each { length kits.items ≡ length scripts.now }
-    requires kits { (i : ℕ) (d : _) → i < length scripts.now
-        → slice_index_or kits.items i d ≡ new_kit service.now.laid i }
-    requires scripts { (i : ℕ) (d : _) → i < length scripts.now
-        → IsRunnableOn service.now.names loads.now (script_commands (slice_index_or scripts.now i d)) }
-    requires few { length scripts.now < 33 }
+    requires { AreKits service.now loads.now scripts.now kits.items }
     ensures many { IfOk result (λ jobs. length jobs.items ≡ length scripts.now) }
     ensures each { IfOk result
         (λ jobs. (i : ℕ) (d : _) (e : _) → i < length scripts.now

@@ -1,8 +1,8 @@
 //! What is left when the workers have ended: it is gathered, and what was not taken yet is written.
-ghost use Rattle.std.specs.Prelude.{◌≡◌, ◌≤◌, ◌<◌, ◌+◌, [], All, IfOk, None, map, vec_capacity, vec_len};
+ghost use Rattle.std.specs.Prelude.{◌≡◌, ◌≤◌, ◌<◌, ◌+◌, [], All, IfOk, map, vec_capacity, vec_len};
 ghost use Rattle.snap_crew.specs.Leaving.{IsUnusedRoom, RunsAll, Settles, done_of};
 ghost use Rattle.snap_crew.specs.Seats.{CanSit};
-ghost use Rattle.snap_desk.specs.Collecting.{IsReadyToWrite};
+ghost use Rattle.snap_desk.specs.Collecting.{CanDrain, GoesOnWriting};
 ghost use Rattle.snap_outlet.specs.Posts.{AreNumbered};
 ghost use Rattle.snap_service.specs.Prelude.{AreSeated};
 
@@ -78,21 +78,19 @@ impl Room {
         collector: &mut Collector<'_>,
         shelf: &mut S,
     ) -> Vec<Done>
-        requires outlet { collector.old.taker.outlet ≡ outlet.now }
+        requires can { CanDrain collector.old outlet.now (S.files shelf.old) }
         requires posts { All (λ p. p.outlet ≡ outlet.now) self.posts.items }
         requires numbered { AreNumbered 0 self.posts.items }
         requires ungathered { collector.old.taker.tally.finished ≡ [] }
         requires few { vec_len self.posts ≤ collector.old.taker.tally.senders }
         requires room { vec_len self.posts + vec_len self.waiting ≤ vec_capacity self.waiting }
         requires empty { self.waiting.items ≡ [] }
-        requires ready { IsReadyToWrite collector.old (S.files shelf.old) }
         ensures done { result.items ≡ self.done.items }
         ensures settles { Settles collector.old collector.new self.posts.items
             (S.files shelf.old) (S.files shelf.new)
             (S.write_faults shelf.old) (S.write_faults shelf.new) }
-        ensures reads { S.read_faults shelf.new ≡ S.read_faults shelf.old }
-        ensures none { collector.old.names ≡ None
-            → (shelf.new ≡ shelf.old) × (collector.new.written ≡ collector.old.written) }
+        ensures goes_on { GoesOnWriting S.files S.read_faults collector.old collector.new
+            shelf.old shelf.new }
     {
         let Room {
             posts,
@@ -121,18 +119,16 @@ pub fn run_all<R: Threads + Wait + Sync, S: Shelf, T: Turn + Sync>(
 ) -> Vec<Done>
     requires seats { All (CanSit loads.now outlet.now) seats.items }
     requires numbered { AreNumbered 0 (map (λ s. s.desk.post) seats.items) }
-    requires outlet { collector.old.taker.outlet ≡ outlet.now }
+    requires can { CanDrain collector.old outlet.now (S.files shelf.old) }
     requires few { vec_len seats ≤ collector.old.taker.tally.senders }
     requires untaken { collector.old.taker.tally.taken ≡ [] }
     requires ungathered { collector.old.taker.tally.finished ≡ [] }
     requires room { IsUnusedRoom (vec_len seats) room }
-    requires ready { IsReadyToWrite collector.old (S.files shelf.old) }
     ensures runs { RunsAll loads.now seats.entry.items result.items collector.old collector.new
         (S.files shelf.old) (S.files shelf.new)
         (S.write_faults shelf.old) (S.write_faults shelf.new) }
-    ensures reads { S.read_faults shelf.new ≡ S.read_faults shelf.old }
-    ensures none { collector.old.names ≡ None
-        → (shelf.new ≡ shelf.old) × (collector.new.written ≡ collector.old.written) }
+    ensures goes_on { GoesOnWriting S.files S.read_faults collector.old collector.new
+        shelf.old shelf.new }
 {
     let mut seats = seats;
     let mut room = room;

@@ -1,10 +1,9 @@
 //! Scripts on tables of their own, from opening to closing.
-ghost use Rattle.std.specs.Prelude.{◌≡◌, ◌≤◌, ◌<◌, ◌+◌, ℕ, All, IfOk, IfSome, IsOk, None, OnOk, length, map, slice_index_or};
-ghost use Rattle.snap_crew.specs.{Endings.Finishes, Jobs.IsCrew, Jobs.IsRunnableOn, Jobs.IsTask, Ran.HasRunJobs};
-ghost use Rattle.snap_crew.specs.{Ran.RunsCrew, Works.script_commands};
-ghost use Rattle.snap_desk.specs.Files.{AreFilesApart, AreBlank, KeepsOthers, all_files_named, answer_names, names_in};
-ghost use Rattle.snap_io.specs.Prelude.{Changes, IfTold};
-ghost use Rattle.snap_service.specs.Prelude.{AreTables, new_kit};
+ghost use Rattle.std.specs.Prelude.{◌≡◌, ◌≤◌, All, IfOk, IfSome, IsOk, None, OnOk, length, map};
+ghost use Rattle.snap_crew.specs.{Endings.Finishes, Jobs.AreKits, Jobs.IsCrew, Jobs.IsTask, Ran.HasRunJobs};
+ghost use Rattle.snap_crew.specs.{Ran.RunsCrew, Tasks.AreReady, Tasks.task_files};
+ghost use Rattle.snap_desk.specs.Files.{KeepsOthers};
+ghost use Rattle.snap_io.specs.Prelude.{Changes};
 
 use crate::ending::{Ending, end_run};
 use crate::jobs::open_jobs;
@@ -79,15 +78,12 @@ pub fn run_scripts<R: Threads + Wait + Sync, S: Shelf, T: Turn + Sync>(
     requires task { IsTask task.now.tables.now task.now.rows task.now.loads.now
         task.now.scripts.now }
     requires some_scripts { 1 ≤ length task.now.scripts.now }
-    requires files { IfSome task.now.replies (λ names. AreFilesApart names.now (map script_commands task.now.scripts.now)) }
-    requires blank { OnOk made
-        (IfSome task.now.replies (λ names. IfTold (S.files shelf.old) (AreBlank names.now))) }
+    requires files { AreReady task.now made (S.files shelf.old) }
     ensures finished { IfOk result
         (Finishes task.now made (S.files shelf.old) (S.files shelf.new)
         (S.write_faults shelf.old) (S.write_faults shelf.new)) }
     ensures kept { Changes (S.files shelf.old) (S.files shelf.new)
-        (KeepsOthers
-        (answer_names (names_in task.now.replies) (all_files_named (map script_commands task.now.scripts.now)))) }
+        (KeepsOthers (task_files task.now)) }
     ensures later { S.write_faults shelf.old ≤ S.write_faults shelf.new }
     ensures reads { S.read_faults shelf.new ≡ S.read_faults shelf.old }
     ensures none { task.now.replies ≡ None → shelf.new ≡ shelf.old }
@@ -123,25 +119,15 @@ fn run_jobs<R: Threads + Wait + Sync, S: Shelf, T: Turn + Sync>(
     shelf: &mut S,
     made: Result<(), Unwritten>,
 ) -> Result<Ran, OutOfMemory>
-    requires tables { AreTables service.now }
-    requires a_kit_each { length kits.items ≡ length task.now.scripts.now }
-    requires kits { (i : ℕ) (d : _) → i < length task.now.scripts.now
-        → slice_index_or kits.items i d ≡ new_kit service.now.laid i }
-    requires scripts { (i : ℕ) (d : _) → i < length task.now.scripts.now
-        → IsRunnableOn service.now.names task.now.loads.now
-        (script_commands (slice_index_or task.now.scripts.now i d)) }
+    requires kits { AreKits service.now task.now.loads.now task.now.scripts.now kits.items }
     requires some { 1 ≤ length task.now.scripts.now }
-    requires few { length task.now.scripts.now ≤ 32 }
-    requires files { IfSome task.now.replies (λ names. AreFilesApart names.now (map script_commands task.now.scripts.now)) }
-    requires blank { OnOk made
-        (IfSome task.now.replies (λ names. IfTold (S.files shelf.old) (AreBlank names.now))) }
+    requires files { AreReady task.now made (S.files shelf.old) }
     ensures ran { IfOk result
         (λ ran. HasRunJobs task.now.loads.now service.now task.now.scripts.now task.now.replies made
         ran (S.files shelf.old) (S.files shelf.new)
         (S.write_faults shelf.old) (S.write_faults shelf.new)) }
     ensures kept { Changes (S.files shelf.old) (S.files shelf.new)
-        (KeepsOthers
-        (answer_names (names_in task.now.replies) (all_files_named (map script_commands task.now.scripts.now)))) }
+        (KeepsOthers (task_files task.now)) }
     ensures later { S.write_faults shelf.old ≤ S.write_faults shelf.new }
     ensures reads { S.read_faults shelf.new ≡ S.read_faults shelf.old }
     ensures none { task.now.replies ≡ None → shelf.new ≡ shelf.old }
@@ -158,15 +144,8 @@ fn open_crew<'t>(
     kits: Vec<Kit>,
     task: &Task<'t>,
 ) -> Result<Crew<'t>, OutOfMemory>
-    requires tables { AreTables service.now }
-    requires a_kit_each { length kits.items ≡ length task.now.scripts.now }
-    requires kits { (i : ℕ) (d : _) → i < length task.now.scripts.now
-        → slice_index_or kits.items i d ≡ new_kit service.now.laid i }
-    requires scripts { (i : ℕ) (d : _) → i < length task.now.scripts.now
-        → IsRunnableOn service.now.names task.now.loads.now
-        (script_commands (slice_index_or task.now.scripts.now i d)) }
+    requires kits { AreKits service.now task.now.loads.now task.now.scripts.now kits.items }
     requires some { 1 ≤ length task.now.scripts.now }
-    requires few { length task.now.scripts.now ≤ 32 }
     requires names { IfSome task.now.replies
         (λ names. length names.now ≡ length task.now.scripts.now) }
     ensures { IfOk result
@@ -197,11 +176,9 @@ fn run_crew<R: Threads + Wait + Sync, S: Shelf, T: Turn + Sync>(
 ) -> (Vec<Done>, Result<(), Unwritten>)
     requires crew { (tables : _)
         × IsCrew task.now.loads.now tables task.now.scripts.now task.now.replies crew }
-    requires files { IfSome task.now.replies (λ names. AreFilesApart names.now (map script_commands task.now.scripts.now)) }
-    requires blank { OnOk made
-        (IfSome task.now.replies (λ names. IfTold (S.files shelf.old) (AreBlank names.now))) }
-    ensures ran { RunsCrew task.now.loads.now task.now.replies made crew.entry result.0.items result.1
-        (S.files shelf.old) (S.files shelf.new)
+    requires files { AreReady task.now made (S.files shelf.old) }
+    ensures ran { RunsCrew task.now.loads.now task.now.replies made crew.entry
+        result.0.items result.1 (S.files shelf.old) (S.files shelf.new)
         (S.write_faults shelf.old) (S.write_faults shelf.new) }
     ensures reads { S.read_faults shelf.new ≡ S.read_faults shelf.old }
     ensures none { task.now.replies ≡ None → (shelf.new ≡ shelf.old) × (result.1 ≡ made) }

@@ -1,14 +1,15 @@
 -- What the workers' pieces make of the files.
-use Rattle.std.proofs.Common.{zero, suc, ◌≡◌, ◌≢◌, ◌⊎◌, ◌≤◌, ◌<◌, ◌+◌, ◌++◌, ℕ, Bool, true, false, cond, List, [], ◌∷◌, Option, Some, None, Result, Ok, Err, length, get_or, inl, inr, refl, ap, ap₂, sym, ◌∙◌, subst, arith, eq-eqb}
-use Rattle.std.specs.Prelude.{◌==◌, All, IfSome, IsTrue, OnOk, bytes_eq, filter, flat_map, map, not, slice_index_or}
-use Rattle.snap_desk.specs.Collecting.{AreThere, Collects, IsCollected, WritesUpTo, as_piece, pieces_in, puts_of}
-use Rattle.snap_desk.specs.Puts.{is_named, AreFor, files_beside, text_in}
-use Rattle.snap_io.specs.Shelves.{Changes, Files, IfTold}
+use Rattle.std.proofs.Common.{zero, suc, ◌≡◌, ◌<◌, ◌++◌, ℕ, Bool, true, false, cond, List, [], ◌∷◌, Option, Some, None, Result, Ok, Err, inl, refl, sym, subst, arith, eq-eqb}
+use Rattle.std.specs.Prelude.{◌==◌, All, filter, map}
+use Rattle.snap_desk.specs.Collecting.{IsCollected, WritesUpTo, pieces_in, puts_of}
+use Rattle.snap_desk.specs.Puts.{AreFor}
+use Rattle.snap_io.specs.Shelves.{Changes, Files}
 use Rattle.snap_outlet.specs.Outlets.{pieces_of}
 use Rattle.snap_outlet.specs.declared.piece.Piece.{Piece}
 use Rattle.snap_outlet.specs.declared.view.Parcel.{Parcel}
 use Rattle.snap_write.proofs.Grown.{part_keeps, put_keeps}
 use Rattle.snap_write.proofs.Written.{changes_as}
+use Rattle.snap_write.specs.Outputs.{IsNamed}
 use Rattle.snap_write.specs.Pieces.{FilePiece, HasPut, HasPutPart}
 use Rattle.snap_write.specs.declared.unwritten.Unwritten.{Unwritten}
 use Rattle.snap_desk.specs.Files.{KeepsOthers}
@@ -30,7 +31,7 @@ for_rest names s x xs h = either (x.sender == s) h
     either false h = h
 
 -- where the pieces of each worker are for files of these names, all are
-parcels_for : (all names : List (List ℕ)) (n : ℕ) (xs : List Parcel) → All (λ (x : Parcel). x.sender < n) xs → ((i : ℕ) → i < n → AreFor all (pieces_of i xs)) → All (λ (x : ℕ × FilePiece). IsTrue (is_named all (let p = x.1 in p.file))) (puts_of names xs)
+parcels_for : (all names : List (List ℕ)) (n : ℕ) (xs : List Parcel) → All (λ (x : Parcel). x.sender < n) xs → ((i : ℕ) → i < n → AreFor all (pieces_of i xs)) → All (λ (x : ℕ × FilePiece). IsNamed all (let p = x.1 in p.file)) (puts_of names xs)
 parcels_for all names n [] within each i d l = absurd (omega (arith, l))
 parcels_for all names n (x ∷ xs) within each zero d l =
     let own = each x.sender (within 0 x (omega arith)) in
@@ -41,9 +42,9 @@ parcels_for all names n (x ∷ xs) within each (suc i) d l =
 -- pieces for files of these names leave all others alone
 module _ (names : List (List ℕ)) where
   abbrev Named : Puts → Type 0
-  Named puts = All (λ (x : ℕ × FilePiece). IsTrue (is_named names (let p = x.1 in p.file))) puts
+  Named puts = All (λ (x : ℕ × FilePiece). IsNamed names (let p = x.1 in p.file)) puts
 
-  bare : (puts : Puts) → Named puts → All (λ (p : FilePiece). IsTrue (is_named names p.file)) (pieces_in puts)
+  bare : (puts : Puts) → Named puts → All (λ (p : FilePiece). IsNamed names p.file) (pieces_in puts)
   bare [] h i d l = absurd (omega (arith, l))
   bare (x ∷ puts) h zero d l = h 0 x (omega arith)
   bare (x ∷ puts) h (suc i) d l = bare puts (λ k e m. h (suc k) e (omega (arith, m))) i d (omega (arith, l))
@@ -53,7 +54,7 @@ module _ (names : List (List ℕ)) where
   in_front (x ∷ done) rest h zero d l = h 0 x (omega arith)
   in_front (x ∷ done) rest h (suc i) d l = in_front done rest (λ k e m. h (suc k) e (omega (arith, m))) i d (omega (arith, l))
 
-  behind : (done : Puts) (x : ℕ × FilePiece) (rest : Puts) → Named (done ++ x ∷ rest) → IsTrue (is_named names (let p = x.1 in p.file))
+  behind : (done : Puts) (x : ℕ × FilePiece) (rest : Puts) → Named (done ++ x ∷ rest) → IsNamed names (let p = x.1 in p.file)
   behind [] x rest h = h 0 x (omega arith)
   behind (y ∷ done) x rest h = behind done x rest (λ k e m. h (suc k) e (omega (arith, m)))
 

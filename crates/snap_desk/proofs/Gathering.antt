@@ -1,27 +1,26 @@
 -- Pieces that are collected after others.
-use Rattle.std.proofs.Common.{◌≡◌, ◌≢◌, ◌≤◌, ◌<◌, ◌+◌, ℕ, zero, suc, List, [], ◌∷◌, ◌++◌, Option, Some, None, Result, Ok, Err, Bool, drop, length, refl, sym, ◌∙◌, ap, ap₂, subst, append_assoc, append-nil, arith}
+use Rattle.std.proofs.Common.{◌≡◌, ◌≤◌, ◌<◌, ◌+◌, ℕ, suc, List, [], ◌∷◌, ◌++◌, Option, Some, None, Result, Ok, Err, Bool, drop, length, refl, sym, ◌∙◌, ap, ap₂, subst, append_assoc, append-nil, arith}
 use denote.Ref.{Bor}
-use Rattle.std.specs.Prelude.{All, IfErr, IfSome, IsTrue, OnErr, OnOk, map, not}
+use Rattle.std.specs.Prelude.{All, IfErr, IfSome, OnErr, OnOk, not}
 use Rattle.std.proofs.lemmas.List.{map-append}
 use Rattle.std.proofs.lemmas.List.Elements.{All-append, All-push}
 use Rattle.std.specs.Global.{Global}
 use Rattle.std.specs.Option.{option_to_list}
 use Rattle.std.specs.declared.collections.VecDeque.{VecDeque}
 use Rattle.snap_io.specs.Causes.{Rose}
-use Rattle.snap_io.specs.Shelves.{Changes, Files, IfTold}
+use Rattle.snap_io.specs.Shelves.{Changes, Files}
 use Rattle.snap_outlet.specs.Outlets.{TakerAt, TakesNext}
 use Rattle.snap_outlet.specs.Posts.{parcels}
 use Rattle.snap_outlet.specs.declared.piece.Piece.{Piece}
 use Rattle.snap_outlet.specs.declared.view.Parcel.{Parcel}
 use Rattle.snap_outlet.specs.declared.view.Tally.{Tally}
 use Rattle.snap_write.proofs.Causes.{rose_before, rose_behind, unwritten_wider}
-use Rattle.snap_write.proofs.Grown.{after_put, nothing_put, part_after, stays_there}
-use Rattle.snap_write.proofs.Written.{changes_after, told_after}
-use Rattle.snap_write.specs.Outputs.{IsUnwritten}
+use Rattle.snap_write.proofs.Grown.{after_put, nothing_put, part_after}
+use Rattle.snap_write.proofs.Written.{changes_after}
+use Rattle.snap_write.specs.Outputs.{IsUnwritten, is_named}
 use Rattle.snap_write.specs.Pieces.{FilePiece, HasPut, HasPutPart}
 use Rattle.snap_write.specs.declared.unwritten.Unwritten.{Unwritten}
-use Rattle.snap_desk.specs.Collecting.{AreThere, Collects, Drains, IsCollected, WritesUpTo, TakesParcels, as_piece, as_put, pieces_in, puts_of, rests_from}
-use Rattle.snap_desk.specs.Puts.{is_named}
+use Rattle.snap_desk.specs.Collecting.{Collects, Drains, GoesOnWriting, IsCollected, WritesUpTo, TakesParcels, as_piece, as_put, pieces_in, puts_of, rests_from}
 use Rattle.snap_desk.specs.declared.collecting.Collector.{Collector}
 
 abbrev Puts : Type 0
@@ -152,6 +151,14 @@ drains_one c d e piece old new w0 w1 took outlet names written taker h = record 
         (subst (λ (r : Came). IfSome d.names (λ (ns : Bor (List (List ℕ))). IsCollected r e.written (puts_of ns.now ((record { sender = took.sender; piece = piece }) ∷ [])) old new (Rose w0 w1))) written k.files);
     later = k.later;
   });
+}
+
+-- a collector that wrote on; what was taken before it did has changed neither names nor what was written
+pub goes_on_more : {S : Type 0} (files : S → Option Files) (reads : S → ℕ) (c d m e : Collector) (old mid new : S) → m.names ≡ c.names → m.written ≡ d.written → GoesOnWriting files reads c d old mid → GoesOnWriting files reads m e mid new → GoesOnWriting files reads c e old new
+goes_on_more files reads c d m e old mid new names written first next = record {
+  ready = next.ready;
+  reads = next.reads ∙ first.reads;
+  none = λ no. let k = next.none (names ∙ no) in let h = first.none no in (k.0 ∙ h.0, k.1 ∙ written ∙ h.1);
 }
 
 parcels_append : (sender : ℕ) (ps qs : List Piece) → parcels sender (ps ++ qs) ≡ parcels sender ps ++ parcels sender qs

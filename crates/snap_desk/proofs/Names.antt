@@ -1,14 +1,15 @@
 -- The names of the workers' files: each worker's are among them all, and no two are the same.
-use Rattle.std.proofs.Common.{zero, suc, ◌≡◌, ◌≢◌, ◌≤◌, ◌<◌, ◌+◌, ◌++◌, ◌||◌, ℕ, Bool, true, false, cond, List, [], ◌∷◌, Option, Some, None, length, get_or, inl, inr, refl, ap, ap₂, sym, ◌∙◌, subst, arith, length-append}
-use Rattle.std.specs.Prelude.{AllPairs, IsTrue, bytes_eq}
+use Rattle.std.proofs.Common.{zero, suc, ◌≡◌, ◌≢◌, ◌<◌, ◌+◌, ◌++◌, ◌||◌, ℕ, Bool, true, false, List, [], ◌∷◌, Some, None, length, get_or, refl, ap, sym, ◌∙◌, subst, arith, length-append}
+use Rattle.std.specs.Prelude.{AllPairs, bytes_eq}
 use Rattle.std.proofs.lemmas.List.Folds.{list_any-append}
 use Rattle.std.proofs.lemmas.Slice.Eq.{bytes_eq-Decides}
 use Rattle.std.proofs.lemmas.List.{get_or-append-add, get_or_append_left}
 use Rattle.snap_desk.specs.Answers.{exported_file}
-use Rattle.snap_desk.specs.Puts.{is_named, AreIn, AreOthers, IsNamedIf}
+use Rattle.snap_desk.specs.Puts.{AreIn, AreOthers}
 use Rattle.snap_model.specs.declared.command.Command.{Command}
 use Rattle.snap_model.specs.declared.command.Command.TheVariants as command
-use Rattle.snap_write.specs.Outputs.{names_of}
+use Rattle.snap_write.proofs.Causes.{same_name}
+use Rattle.snap_write.specs.Outputs.{is_named, names_of}
 use Rattle.snap_desk.specs.Files.{all_files_named, AllIn, AllOthers, AreFilesApart, files_named}
 
 pub or_false : (b : Bool) → (b || false) ≡ b
@@ -24,9 +25,6 @@ or_left a b is = ap (λ (x : Bool). x || b) is
 
 pub or_right : (a b : Bool) → b ≡ true → (a || b) ≡ true
 or_right a b is = ap (λ (x : Bool). a || x) is ∙ or_true a
-
-same_name : (name : List ℕ) → bytes_eq name name ≡ true
-same_name name = (bytes_eq-Decides name name).1 refl
 
 pub among_left : (xs ys : List (List ℕ)) (n : List ℕ) → is_named xs n ≡ true → is_named (xs ++ ys) n ≡ true
 among_left xs ys n is = list_any-append (λ known. bytes_eq known n) xs ys ∙ or_left (is_named xs n) (is_named ys n) is

@@ -1,19 +1,16 @@
 -- What a piece more makes of what was put out.
-use Rattle.std.proofs.Common.{◌≡◌, ◌≢◌, ◌++◌, ℕ, Bool, true, false, cond, List, [], ◌∷◌, Option, Some, None, Result, Ok, Err, refl, ap, ap₂, sym, ◌∙◌, subst, append_assoc, append-nil}
-use Rattle.std.specs.Prelude.{IsTrue, OnErr, OnOk, bytes_eq}
+use Rattle.std.proofs.Common.{◌≡◌, ◌≢◌, ◌++◌, ℕ, true, false, cond, List, [], ◌∷◌, Option, Some, None, Result, Ok, Err, Vec, Global, refl, ap, ap₂, sym, ◌∙◌, subst, append_assoc, append-nil}
+use Rattle.std.specs.Prelude.{OnErr, OnOk, bytes_eq}
 use Rattle.snap_outlet.specs.declared.piece.Piece.{Piece}
-use Rattle.std.proofs.lemmas.Slice.Eq.{bytes_eq-Decides}
-use Rattle.snap_write.specs.Outputs.{Outputs}
+use Rattle.snap_write.proofs.Causes.{same_name}
+use Rattle.snap_write.specs.Outputs.{IsNamed, Outputs}
 use Rattle.snap_model.specs.declared.command.Command.{Command}
 use Rattle.snap_model.specs.declared.command.Command.TheVariants as command
 use Rattle.snap_outlet.specs.Posts.{put_at}
 use Rattle.snap_desk.specs.declared.desk.Desk.{Desk}
 use Rattle.snap_desk.specs.Answers.{Answered, exported_file}
 use Rattle.snap_io.specs.Causes.{raised}
-use Rattle.snap_desk.specs.Puts.{PutsBehind, is_named, AreCountedFrom, AreFor, AreIn, AreOthers, IsNamedIf, IsPutOut, IsSame, PutsOne, files_beside, text_in}
-
-bytes_same : (name : List ℕ) → bytes_eq name name ≡ true
-bytes_same name = (bytes_eq-Decides name name).1 refl
+use Rattle.snap_desk.specs.Puts.{PutsBehind, AreCountedFrom, AreFor, AreIn, AreOthers, GoesOnPutting, IsNamedIf, IsPutOut, IsSame, PutsOne, files_beside, text_in}
 
 text_push : (name : List ℕ) (ps : List Piece) (p : Piece) → text_in name (ps ++ p ∷ []) ≡ text_in name ps ++ cond (bytes_eq p.file name) p.bytes []
 text_push name [] p = append-nil (cond (bytes_eq p.file name) p.bytes [])
@@ -23,7 +20,7 @@ beside_push : (name : List ℕ) (ps : List Piece) (p : Piece) → files_beside n
 beside_push name [] p = append-nil (cond (bytes_eq p.file name) [] ((p.file, p.bytes) ∷ []))
 beside_push name (x ∷ ps) p = ap (λ (l : Outputs). cond (bytes_eq x.file name) [] ((x.file, x.bytes) ∷ []) ++ l) (beside_push name ps p) ∙ sym (append_assoc (cond (bytes_eq x.file name) [] ((x.file, x.bytes) ∷ [])) (files_beside name ps) (cond (bytes_eq p.file name) [] ((p.file, p.bytes) ∷ [])))
 
-pub for_push : (names : List (List ℕ)) (ps : List Piece) (p : Piece) → AreFor names ps → IsTrue (is_named names p.file) → AreFor names (ps ++ p ∷ [])
+pub for_push : (names : List (List ℕ)) (ps : List Piece) (p : Piece) → AreFor names ps → IsNamed names p.file → AreFor names (ps ++ p ∷ [])
 for_push names [] p all is = (is, tt)
 for_push names (x ∷ ps) p all is = (all.0, for_push names ps p all.1 is)
 
@@ -31,7 +28,7 @@ module _ (name : List ℕ) (a : Answered) (put : List Piece) (p : Piece) where
   -- all lines go out as a piece of the reply file
   pub lines_out : (lines : List ℕ) → p.file ≡ name → p.bytes ≡ lines → IsPutOut (Some name) a put lines → IsPutOut (Some name) a (put ++ p ∷ []) []
   lines_out lines is text h =
-      let same : bytes_eq p.file name ≡ true = ap (λ f. bytes_eq f name) is ∙ bytes_same name in (
+      let same : bytes_eq p.file name ≡ true = ap (λ f. bytes_eq f name) is ∙ same_name name in (
         h.0 ∙ ap (λ (l : List ℕ). text_in name put ++ l) (sym text) ∙ sym (ap (λ b. text_in name put ++ cond b p.bytes []) same) ∙ sym (text_push name put p) ∙ sym (append-nil (text_in name (put ++ p ∷ []))),
         h.1 ∙ sym (append-nil (files_beside name put)) ∙ sym (ap (λ b. files_beside name put ++ cond b [] ((p.file, p.bytes) ∷ [])) same) ∙ sym (beside_push name put p),
       )
@@ -104,16 +101,28 @@ lines_added (Ok u) d m e more reply before full lines h = record {
     both : (ls : List ℕ) (es : Outputs) (n : ℕ) → (let x : Answered = record { lines = ls ++ []; exports = (es ++ []) ++ []; full = n } in x) ≡ (let y : Answered = record { lines = ls; exports = es ++ []; full = n } in y)
     both ls es n = ap₂ (λ (l : List ℕ) (x : Outputs). (let y : Answered = record { lines = l; exports = x; full = n } in y)) (append-nil ls) (append-nil (es ++ []))
 
+-- the desk of the same worker
+pub same_more : (d e f : Desk) → IsSame d e → IsSame e f → IsSame d f
+same_more d e f h k = record { reply = k.reply ∙ h.reply; who = k.who ∙ h.who; outlet = k.outlet ∙ h.outlet; sender = k.sender ∙ h.sender }
+
+-- lines and the count of full replies may have changed before
+pub puts_from : (d : Desk) (lines : Vec ℕ Global) (full : ℕ) (e : Desk) (outputs : Outputs) → GoesOnPutting (record d { lines = lines; full = full }) e outputs → GoesOnPutting d e outputs
+puts_from d lines full e outputs h = record {
+  same = (let s = h.same in record { reply = s.reply; who = s.who; outlet = s.outlet; sender = s.sender });
+  counted = h.counted;
+  pieces = h.pieces;
+}
+
 -- a piece for a file of these names
-pub one_for : {E : Type 0} (r : Result (Unit {0}) E) (m e : Desk) (file text : List ℕ) (names : List (List ℕ)) → OnOk r (PutsOne m e file text) → OnErr r (put_at e.post ≡ put_at m.post) → IsTrue (is_named names file) → AreFor names (put_at m.post) → AreFor names (put_at e.post)
-one_for (Ok u) m e file text names put stays is all = subst (λ (ps : List Piece). AreFor names ps) (sym put.put) (for_push names (put_at m.post) put.piece all (subst (λ (x : List ℕ). IsTrue (is_named names x)) (sym put.file_is) is))
+pub one_for : {E : Type 0} (r : Result (Unit {0}) E) (m e : Desk) (file text : List ℕ) (names : List (List ℕ)) → OnOk r (PutsOne m e file text) → OnErr r (put_at e.post ≡ put_at m.post) → IsNamed names file → AreFor names (put_at m.post) → AreFor names (put_at e.post)
+one_for (Ok u) m e file text names put stays is all = subst (λ (ps : List Piece). AreFor names ps) (sym put.put) (for_push names (put_at m.post) put.piece all (subst (λ (x : List ℕ). IsNamed names x) (sym put.file_is) is))
 one_for (Err x) m e file text names put stays is all = subst (λ (ps : List Piece). AreFor names ps) (sym stays) all
 
-pub reply_in : (names : List (List ℕ)) (o : Option (List ℕ)) (name file : List ℕ) → o ≡ Some name → file ≡ name → IsNamedIf names o → IsTrue (is_named names file)
-reply_in names o name file some is h = subst (λ (x : List ℕ). IsTrue (is_named names x)) (sym is) (subst (λ (x : Option (List ℕ)). IsNamedIf names x) some h)
+pub reply_in : (names : List (List ℕ)) (o : Option (List ℕ)) (name file : List ℕ) → o ≡ Some name → file ≡ name → IsNamedIf names o → IsNamed names file
+reply_in names o name file some is h = subst (λ (x : List ℕ). IsNamed names x) (sym is) (subst (λ (x : Option (List ℕ)). IsNamedIf names x) some h)
 
-pub export_in : (names : List (List ℕ)) (cmd : Command) (slot lo hi : ℕ) (named file text : List ℕ) → cmd ≡ command.Export slot lo hi named → file ≡ named → AreIn names (exported_file cmd text) → IsTrue (is_named names file)
-export_in names cmd slot lo hi named file text is file_is h = subst (λ (x : List ℕ). IsTrue (is_named names x)) (sym file_is) (subst (λ (c : Command). AreIn names (exported_file c text)) is h).0
+pub export_in : (names : List (List ℕ)) (cmd : Command) (slot lo hi : ℕ) (named file text : List ℕ) → cmd ≡ command.Export slot lo hi named → file ≡ named → AreIn names (exported_file cmd text) → IsNamed names file
+export_in names cmd slot lo hi named file text is file_is h = subst (λ (x : List ℕ). IsNamed names x) (sym file_is) (subst (λ (c : Command). AreIn names (exported_file c text)) is h).0
 
 -- a piece more that is counted
 pub counted_push : (who n m k : ℕ) (ps : List Piece) (p : Piece) → AreCountedFrom who n ps m → p.worker ≡ who → p.number ≡ raised m → k ≡ raised m → AreCountedFrom who n (ps ++ p ∷ []) k

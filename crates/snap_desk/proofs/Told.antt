@@ -1,25 +1,23 @@
 -- The files tell what the workers' commands came to.
-use Rattle.std.proofs.Common.{zero, suc, ◌≡◌, ◌≢◌, ◌≤◌, ◌<◌, ◌+◌, ◌++◌, ℕ, Bool, true, false, cond, List, [], ◌∷◌, Option, Some, None, Result, Ok, Err, length, get_or, inl, inr, refl, ap, ap₂, sym, ◌∙◌, subst, append-nil, arith}
-use Rattle.std.specs.Prelude.{◌==◌, All, AllPairs, IfSome, IsTrue, OnOk, bytes_eq, filter, flat_map, map, not, slice_index_or}
-use Rattle.std.proofs.lemmas.List.{get_or-map, length-map, map-append}
+use Rattle.std.proofs.Common.{zero, suc, ◌≡◌, ◌≢◌, ◌≤◌, ◌<◌, ◌++◌, ℕ, Bool, true, false, cond, List, [], ◌∷◌, Option, Some, Result, Ok, Err, length, get_or, refl, ap, ap₂, sym, ◌∙◌, subst, append-nil, arith}
+use Rattle.std.specs.Prelude.{◌==◌, All, AllPairs, OnOk, bytes_eq, filter, flat_map, map, not}
+use Rattle.std.proofs.lemmas.List.{get_or-map, length-map}
 use Rattle.std.proofs.lemmas.List.Concat.{flat_map-cons}
 use Rattle.snap_desk.specs.Answers.{Answered}
 use Rattle.snap_desk.specs.Collecting.{as_piece, as_put, IsCollected, WritesUpTo, pieces_in, puts_of}
-use Rattle.snap_desk.specs.Puts.{is_named, files_beside, IsPutOut, text_in}
+use Rattle.snap_desk.specs.Puts.{files_beside, IsPutOut, text_in}
 use Rattle.snap_io.specs.Shelves.{Changes, Files, IfTold}
 use Rattle.snap_outlet.specs.Outlets.{pieces_of}
-use Rattle.snap_outlet.specs.Posts.{PostAt, put_at}
 use Rattle.snap_outlet.specs.declared.piece.Piece.{Piece}
 use Rattle.snap_outlet.specs.declared.view.Parcel.{Parcel}
 use Rattle.snap_model.specs.declared.command.Command.{Command}
 use Rattle.snap_write.proofs.Causes.{unwritten_wider}
 use Rattle.snap_write.proofs.PutOut.{begun, named_among, whole}
-use Rattle.snap_write.proofs.Written.{changes_from}
-use Rattle.snap_write.specs.Outputs.{HasBegun, HasWritten, IsUnwritten, Outputs, names_of}
+use Rattle.snap_write.proofs.Written.{changes_from, names_of-append}
+use Rattle.snap_write.specs.Outputs.{HasBegun, HasWritten, IsUnwritten, Outputs, is_named, names_of}
 use Rattle.snap_write.specs.Pieces.{added, AreEmpty, ArePutOut, FilePiece, files_put, HasPut, HasPutPart, made_beside, of_file, of_writer, PutsOut}
 use Rattle.snap_write.specs.declared.unwritten.Unwritten.{Unwritten}
-use Rattle.snap_write.specs.declared.unwritten.Unwritten.TheVariants as why
-use Rattle.snap_desk.specs.Files.{all_files_named, files_named, answers_in, AreFilesApart, AreBlank, exports_in, IsAfter, IsWrittenOr, replies_in}
+use Rattle.snap_desk.specs.Files.{all_files_named, files_named, AreFilesApart, AreBlank, exports_in, IsAfter, IsWrittenOr, replies_in}
 use Rattle.std.proofs.lemmas.Slice.Eq.{bytes_eq-Decides}
 use Rattle.snap_desk.proofs.Names.{some_of, among_at, apart, named_among as named_of, or_false, or_left, or_right}
 
@@ -84,9 +82,8 @@ reply_length [] (a ∷ bs) e = absurd (omega (arith, e))
 reply_length (n ∷ names) [] e = absurd (omega (arith, e))
 reply_length (n ∷ names) (a ∷ bs) e = let h = reply_length names bs (omega (arith, e)) in omega (arith, h)
 
-reply_names : (names : List (List ℕ)) (bs : List Answered) → length names ≡ length bs → names_of (replies_in names bs) ≡ names
-reply_names [] [] e = refl
-reply_names [] (a ∷ bs) e = absurd (omega (arith, e))
+pub reply_names : (names : List (List ℕ)) (bs : List Answered) → length names ≤ length bs → names_of (replies_in names bs) ≡ names
+reply_names [] bs e = refl
 reply_names (n ∷ names) [] e = absurd (omega (arith, e))
 reply_names (n ∷ names) (a ∷ bs) e = ap (λ (l : List (List ℕ)). n ∷ l) (reply_names names bs (omega (arith, e)))
 
@@ -101,16 +98,13 @@ exports_same : (bs : List Answered) → flat_map (λ (files : Outputs). files) (
 exports_same [] = refl
 exports_same (a ∷ bs) = flat_map-cons (λ (files : Outputs). files) a.exports (map (λ (x : Answered). x.exports) bs) ∙ ap (λ (l : Outputs). a.exports ++ l) (exports_same bs) ∙ sym (flat_map-cons (λ (x : Answered). x.exports) a bs)
 
-names_append : (xs ys : Outputs) → names_of (xs ++ ys) ≡ names_of xs ++ names_of ys
-names_append xs ys = map-append (λ output. output.0) xs ys
-
 exports_named : (scripts : List (List Command)) (bs : List Answered) → length bs ≡ length scripts → ((i : ℕ) (s : List Command) (a : Answered) → i < length scripts → names_of (let x = get_or bs i a in x.exports) ≡ files_named (get_or scripts i s))
     → names_of (exports_in bs) ≡ all_files_named scripts
 exports_named [] [] e h = refl
 exports_named [] (a ∷ bs) e h = absurd (omega (arith, e))
 exports_named (s ∷ scripts) [] e h = absurd (omega (arith, e))
 exports_named (s ∷ scripts) (a ∷ bs) e h =
-    ap names_of (flat_map-cons (λ (x : Answered). x.exports) a bs) ∙ names_append a.exports (exports_in bs)
+    ap names_of (flat_map-cons (λ (x : Answered). x.exports) a bs) ∙ names_of-append a.exports (exports_in bs)
     ∙ ap₂ (λ (x y : List (List ℕ)). x ++ y) (h 0 s a (omega arith)) (exports_named scripts bs (omega (arith, e)) (λ i t x l. h (suc i) t x (omega (arith, l))))
 
 -- the pieces of all workers, of whom each put out what its commands came to
@@ -134,7 +128,7 @@ module _ (names : List (List ℕ)) (scripts : List (List Command)) (bs : List An
   files_same = ap (λ (l : Outputs). replies ++ l) (exports_same bs)
 
   out_names : names_of (files_put replies exports) ≡ names ++ all_files_named scripts
-  out_names = ap names_of files_same ∙ names_append replies (exports_in bs) ∙ ap₂ (λ (x y : List (List ℕ)). x ++ y) (reply_names names bs many) (exports_named scripts bs even named)
+  out_names = ap names_of files_same ∙ names_of-append replies (exports_in bs) ∙ ap₂ (λ (x y : List (List ℕ)). x ++ y) (reply_names names bs (omega (arith, many))) (exports_named scripts bs even named)
 
   one_out : (i : ℕ) (n : List ℕ) (s : List Command) (a : Answered) → i < length scripts → PutsOut (get_or names i n, (let x = get_or bs i a in x.lines)) (let x = get_or bs i a in x.exports) (map (as_piece names) (pieces_of i parcels))
   one_out i n s a l = let ps = pieces_of i parcels in let name = get_or names i n in let x = get_or bs i a in let p = put i n a l in record {

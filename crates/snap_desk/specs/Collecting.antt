@@ -1,15 +1,14 @@
 -- What becomes of the pieces that are taken, and of the files by them.
-use Rattle.std.specs.Prelude.{◌≡◌, ◌≢◌, ◌≤◌, ◌<◌, ◌+◌, ℕ, List, [], ◌∷◌, ◌++◌, All, IfSome, IsTrue, None, Option, Result, Ok, Err, OnOk, map, not}
+use Rattle.std.specs.Prelude.{◌≡◌, ◌≢◌, ◌≤◌, ◌<◌, ◌+◌, ℕ, List, [], ◌∷◌, ◌++◌, All, IfSome, None, Option, Result, Ok, Err, OnOk, map, not}
 use Rattle.snap_io.specs.Causes.{Rose}
 use Rattle.snap_io.specs.Shelves.{Changes, Files, IfTold}
-use Rattle.snap_outlet.specs.Outlets.{TakerAt}
+use Rattle.snap_outlet.specs.Outlets.{OutletId, TakerAt}
 use Rattle.snap_outlet.specs.Posts.{parcels}
 use Rattle.snap_outlet.specs.declared.piece.Piece.{Piece}
 use Rattle.snap_outlet.specs.declared.view.Parcel.{Parcel}
-use Rattle.snap_write.specs.Outputs.{IsUnwritten}
+use Rattle.snap_write.specs.Outputs.{is_named, IsNamed, IsUnwritten}
 use Rattle.snap_write.specs.Pieces.{FilePiece, HasPut, HasPutPart}
 use Rattle.snap_write.specs.declared.unwritten.Unwritten.{Unwritten}
-use Rattle.snap_desk.specs.Puts.{is_named}
 use Rattle.snap_desk.specs.declared.collecting.Collector.{Collector}
 
 -- a piece as it comes to its file: to a reply file it is added, each other it makes
@@ -29,7 +28,7 @@ pieces_in puts = map (λ x. x.1) puts
 
 -- the files of these names are there
 abbrev pub AreThere : List (List ℕ) → Files → Type 0
-AreThere names files = (name : List ℕ) → IsTrue (is_named names name) → files name ≢ None
+AreThere names files = (name : List ℕ) → IsNamed names name → files name ≢ None
 
 -- the pieces were written up to one, of which a front was written at most
 pub record WritesUpTo (puts : List (ℕ × FilePiece)) (old new : Option Files) (fault : Type 0)
@@ -50,7 +49,21 @@ IsCollected (Err why) now puts old new fault = (new ≡ old) × (now ≡ Err why
 
 -- the reply files are there, unless one could not be written
 abbrev pub IsReadyToWrite : Collector → Option Files → Type 0
-IsReadyToWrite c files = IfSome c.names (λ names. OnOk c.written (IfTold files (AreThere names.now)))
+IsReadyToWrite c files =
+    IfSome c.names (λ names. OnOk c.written (IfTold files (AreThere names.now)))
+
+-- a collector that takes from this outlet, and can write what it takes
+pub record CanDrain (c : Collector) (outlet : OutletId) (files : Option Files) : Type 0 where
+  pub outlet_is : c.taker.outlet ≡ outlet
+  pub ready : IsReadyToWrite c files
+
+-- what a collector that writes leaves: it can write on, no read has failed, and without reply files
+-- nothing has changed
+pub record GoesOnWriting {S : Type 0} (files : S → Option Files) (read_faults : S → ℕ)
+    (c d : Collector) (old new : S) : Type 0 where
+  pub ready : IsReadyToWrite d (files new)
+  pub reads : read_faults new ≡ read_faults old
+  pub none : c.names ≡ None → (new ≡ old) × (d.written ≡ c.written)
 
 -- these pieces of workers came to a collector, which writes them where there are reply files
 pub record Collects (c d : Collector) (xs : List Parcel) (old new : Option Files)

@@ -1,16 +1,16 @@
 -- The files of a run's workers: which there may be, and what becomes of them.
-use Rattle.std.specs.Prelude.{◌≡◌, ◌≢◌, ◌⊎◌, ◌<◌, ◌++◌, ℕ, AllPairs, IsTrue, List, [], ◌∷◌, Option, Some, None, Result, Ok, Err, ⊤, flat_map, length, slice_index_or}
+use Rattle.std.specs.Prelude.{◌≡◌, ◌≢◌, ◌⊎◌, ◌<◌, ◌++◌, ℕ, AllPairs, List, [], ◌∷◌, Option, Some, None, Result, Ok, Err, ⊤, flat_map, length, slice_index_or}
 use denote.Ref.{Bor}
 use Rattle.snap_desk.specs.Answers.{Answered, exported_file}
-use Rattle.snap_desk.specs.Puts.{is_named, AreIn, AreOthers}
+use Rattle.snap_desk.specs.Puts.{AreIn, AreOthers}
 use Rattle.snap_io.specs.Shelves.{Changes, Files}
 use Rattle.snap_model.specs.declared.command.Command.{Command}
-use Rattle.snap_write.specs.Outputs.{HasBegun, HasWritten, IsUnwritten, Outputs, names_of}
+use Rattle.snap_write.specs.Outputs.{HasBegun, HasWritten, IsNamed, IsUnwritten, Outputs, names_of}
 use Rattle.snap_write.specs.declared.unwritten.Unwritten.{Unwritten}
 
 -- every file but those of these names is as it was
 abbrev pub KeepsOthers : List (List ℕ) → Files → Files → Type 0
-KeepsOthers names old new = (name : List ℕ) → (new name ≡ old name) ⊎ IsTrue (is_named names name)
+KeepsOthers names old new = (name : List ℕ) → (new name ≡ old name) ⊎ IsNamed names name
 
 -- the files that commands export
 abbrev pub files_named : List Command → List (List ℕ)

@@ -1,11 +1,10 @@
--- What a worker has put out: the text of its replies in pieces for its reply file, and each export as
--- one piece for its own.
-use Rattle.std.specs.Prelude.{◌≡◌, ◌<◌, ◌++◌, ℕ, Bool, false, List, [], ◌∷◌, Option, Some, None, IsTrue, ⊤, bytes_eq, if◌then◌else◌, length}
-use Rattle.std.specs.List.{list_any}
+-- What a worker has put out: the text of its replies in pieces for its reply file, and each export
+-- as one piece for its own.
+use Rattle.std.specs.Prelude.{◌≡◌, ◌<◌, ◌++◌, ℕ, false, List, [], ◌∷◌, Option, Some, None, ⊤, bytes_eq, if◌then◌else◌, length, map}
 use Rattle.snap_io.specs.Causes.{raised}
 use Rattle.snap_outlet.specs.Posts.{put_at}
 use Rattle.snap_outlet.specs.declared.piece.Piece.{Piece}
-use Rattle.snap_write.specs.Outputs.{Outputs}
+use Rattle.snap_write.specs.Outputs.{IsNamed, Outputs, names_of}
 use Rattle.snap_desk.specs.Answers.{Answered}
 use Rattle.snap_desk.specs.declared.desk.Desk.{Desk}
 
@@ -37,23 +36,22 @@ pub record IsEnded (d : Desk) (a : Answered) : Type 0 where
   pub put : IsPutOut d.reply a (put_at d.post) []
   pub full : d.full ≡ a.full
 
--- the name is one of these
-abbrev pub is_named : List (List ℕ) → List ℕ → Bool
-is_named names name = list_any (λ known. bytes_eq known name) names
+-- each of these files is one of the names
+abbrev pub AreAllNamed : List (List ℕ) → List (List ℕ) → Type 0
+AreAllNamed names [] = ⊤
+AreAllNamed names (file ∷ files) = IsNamed names file × AreAllNamed names files
 
 -- each of these pieces, or outputs, is for a file of these names
 abbrev pub AreFor : List (List ℕ) → List Piece → Type 0
-AreFor names [] = ⊤
-AreFor names (p ∷ ps) = IsTrue (is_named names p.file) × AreFor names ps
+AreFor names pieces = AreAllNamed names (map (λ p. p.file) pieces)
 
 abbrev pub AreIn : List (List ℕ) → Outputs → Type 0
-AreIn names [] = ⊤
-AreIn names (output ∷ outputs) = IsTrue (is_named names output.0) × AreIn names outputs
+AreIn names outputs = AreAllNamed names (names_of outputs)
 
 -- a name is one of these, if it is there
 abbrev pub IsNamedIf : List (List ℕ) → Option (List ℕ) → Type 0
 IsNamedIf names None = ⊤
-IsNamedIf names (Some name) = IsTrue (is_named names name)
+IsNamedIf names (Some name) = IsNamed names name
 
 -- none of these outputs has this name, if it is there
 abbrev pub AreBeside : List ℕ → Outputs → Type 0
@@ -101,3 +99,11 @@ AreCountedFrom who n (p ∷ ps) m =
 -- the pieces that a desk put out have its worker's number, and are counted from 1
 abbrev pub IsCounted : Desk → Type 0
 IsCounted d = AreCountedFrom d.who 0 (put_at d.post) d.pieces
+
+-- the desk of the same worker, from which pieces may have gone out: they are counted on, and are
+-- for its reply file or for the files of these outputs
+pub record GoesOnPutting (d e : Desk) (outputs : Outputs) : Type 0 where
+  pub same : IsSame d e
+  pub counted : IsCounted d → IsCounted e
+  pub pieces : (names : List (List ℕ)) → IsNamedIf names d.reply → AreIn names outputs
+      → AreFor names (put_at d.post) → AreFor names (put_at e.post)

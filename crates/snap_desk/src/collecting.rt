@@ -1,10 +1,11 @@
 //! The collector: it takes pieces and writes each to its file.
-ghost use Rattle.std.specs.Prelude.{◌≡◌, ◌∷◌, ◌≤◌, [], None, List, ℕ, OnOk, IfSome, map};
-ghost use Rattle.snap_desk.specs.Collecting.{AreThere, Collects, Drains, IsCollected, IsReadyToWrite, as_piece, rests_from};
-ghost use Rattle.snap_desk.specs.Puts.{is_named};
+ghost use Rattle.std.specs.Prelude.{◌≡◌, ◌∷◌, ◌≤◌, [], List, ℕ, OnOk, map};
+ghost use Rattle.snap_desk.specs.Collecting.{AreThere, CanDrain, Collects, Drains, GoesOnWriting, IsCollected};
+ghost use Rattle.snap_desk.specs.Collecting.{IsReadyToWrite, as_piece, rests_from};
 ghost use Rattle.snap_io.specs.Causes.{Rose};
 ghost use Rattle.snap_io.specs.Shelves.{IfTold};
 ghost use Rattle.snap_outlet.specs.Posts.{AreAllPut, AreNumbered, PostAt, parcels};
+ghost use Rattle.snap_write.specs.Outputs.{is_named};
 
 use crate::bell::Bell;
 use snap_io::Shelf;
@@ -35,14 +36,11 @@ impl Collector<'_> {
         outlet: &Outlet,
         shelf: &mut S,
     )
-        requires outlet { self.old.taker.outlet ≡ outlet.now }
-        requires ready { IsReadyToWrite self.old (S.files shelf.old) }
+        requires { CanDrain self.old outlet.now (S.files shelf.old) }
         ensures drains { Drains self.old self.new (S.files shelf.old) (S.files shelf.new)
             (S.write_faults shelf.old) (S.write_faults shelf.new) }
-        ensures ready { IsReadyToWrite self.new (S.files shelf.new) }
-        ensures reads { S.read_faults shelf.new ≡ S.read_faults shelf.old }
-        ensures none { self.old.names ≡ None
-            → (shelf.new ≡ shelf.old) × (self.new.written ≡ self.old.written) }
+        ensures goes_on { GoesOnWriting S.files S.read_faults self.old self.new
+            shelf.old shelf.new }
         ensures all_put { (posts : List PostAt)
             → self.old.taker.tally.finished ≡ map (λ p. p.sent) posts
             → AreNumbered 0 posts → AreAllPut self.new.taker.tally.taken posts }
@@ -66,14 +64,11 @@ impl Collector<'_> {
         shelf: &mut S,
         bell: &Bell,
     )
-        requires outlet { self.old.taker.outlet ≡ outlet.now }
-        requires ready { IsReadyToWrite self.old (S.files shelf.old) }
+        requires { CanDrain self.old outlet.now (S.files shelf.old) }
         ensures drains { Drains self.old self.new (S.files shelf.old) (S.files shelf.new)
             (S.write_faults shelf.old) (S.write_faults shelf.new) }
-        ensures ready { IsReadyToWrite self.new (S.files shelf.new) }
-        ensures reads { S.read_faults shelf.new ≡ S.read_faults shelf.old }
-        ensures none { self.old.names ≡ None
-            → (shelf.new ≡ shelf.old) × (self.new.written ≡ self.old.written) }
+        ensures goes_on { GoesOnWriting S.files S.read_faults self.old self.new
+            shelf.old shelf.new }
     {
         if !bell.has_begun(rt) {
             return;
@@ -96,15 +91,14 @@ impl Collector<'_> {
         shelf: &mut S,
         rests: Vec<VecDeque<Piece>>,
     )
-        requires ready { IsReadyToWrite self.old (S.files shelf.old) }
+        requires { IsReadyToWrite self.old (S.files shelf.old) }
         ensures taker { self.new.taker ≡ self.old.taker }
-        ensures collects { Collects self.old self.new (rests_from 0 (map (λ r. r.items) rests.items))
+        ensures collects { Collects self.old self.new
+            (rests_from 0 (map (λ r. r.items) rests.items))
             (S.files shelf.old) (S.files shelf.new)
             (S.write_faults shelf.old) (S.write_faults shelf.new) }
-        ensures ready { IsReadyToWrite self.new (S.files shelf.new) }
-        ensures reads { S.read_faults shelf.new ≡ S.read_faults shelf.old }
-        ensures none { self.old.names ≡ None
-            → (shelf.new ≡ shelf.old) × (self.new.written ≡ self.old.written) }
+        ensures goes_on { GoesOnWriting S.files S.read_faults self.old self.new
+            shelf.old shelf.new }
     {
         for rest in rests {
             self.collect_rest(alloc, shelf, rest);
@@ -113,16 +107,14 @@ impl Collector<'_> {
 
     // Writes what waited at one post.
     fn collect_rest<S: Shelf>(&mut self, alloc: Global, shelf: &mut S, rest: VecDeque<Piece>)
-        requires ready { IsReadyToWrite self.old (S.files shelf.old) }
+        requires { IsReadyToWrite self.old (S.files shelf.old) }
         ensures taker { self.new.taker ≡ self.old.taker }
         ensures collects { (sender : ℕ)
             → Collects self.old self.new (parcels sender rest.items)
             (S.files shelf.old) (S.files shelf.new)
             (S.write_faults shelf.old) (S.write_faults shelf.new) }
-        ensures ready { IsReadyToWrite self.new (S.files shelf.new) }
-        ensures reads { S.read_faults shelf.new ≡ S.read_faults shelf.old }
-        ensures none { self.old.names ≡ None
-            → (shelf.new ≡ shelf.old) × (self.new.written ≡ self.old.written) }
+        ensures goes_on { GoesOnWriting S.files S.read_faults self.old self.new
+            shelf.old shelf.new }
     {
         let mut left = rest;
         while let Some(piece) = left.pop_front() {
@@ -132,16 +124,14 @@ impl Collector<'_> {
 
     /// Writes a piece to its file, where there are reply files and everything before it was written.
     pub fn collect<S: Shelf>(&mut self, alloc: Global, shelf: &mut S, piece: &Piece)
-        requires ready { IsReadyToWrite self.old (S.files shelf.old) }
+        requires { IsReadyToWrite self.old (S.files shelf.old) }
         ensures taker { self.new.taker ≡ self.old.taker }
         ensures collects { (sender : ℕ)
             → Collects self.old self.new ((record { sender = sender; piece = piece.now }) ∷ [])
             (S.files shelf.old) (S.files shelf.new)
             (S.write_faults shelf.old) (S.write_faults shelf.new) }
-        ensures ready { IsReadyToWrite self.new (S.files shelf.new) }
-        ensures reads { S.read_faults shelf.new ≡ S.read_faults shelf.old }
-        ensures none { self.old.names ≡ None
-            → (shelf.new ≡ shelf.old) × (self.new.written ≡ self.old.written) }
+        ensures goes_on { GoesOnWriting S.files S.read_faults self.old self.new
+            shelf.old shelf.new }
     {
         if let Some(names) = self.names {
             let written = mem::replace(&mut self.written, Ok(()));

@@ -2,7 +2,8 @@
 //! export as one piece.
 ghost use Rattle.std.specs.Prelude.{◌≡◌, ◌≢◌, ◌<◌, ◌^◌, ◌+◌, ◌∷◌, ◌++◌, [], None, List, ℕ, OnErr, OnOk, length};
 ghost use Rattle.snap_desk.specs.Answers.{Answered, and_answer, exported_file, full_of};
-ghost use Rattle.snap_desk.specs.Puts.{PutsBehind, AreFor, AreIn, AreOthers, IsCounted, IsEnded, IsNamedIf, HoldsAnswered, IsSame, KeepsShort, PutsOne};
+ghost use Rattle.snap_desk.specs.Puts.{AreFor, AreIn, AreOthers, GoesOnPutting, HoldsAnswered, IsCounted, IsEnded};
+ghost use Rattle.snap_desk.specs.Puts.{IsSame, KeepsShort, PutsBehind, PutsOne};
 ghost use Rattle.snap_outlet.specs.Posts.{PutsOn, put_at};
 ghost use Rattle.snap_text.specs.Replies.{IsReplyOf, reply_text};
 
@@ -66,7 +67,7 @@ impl Desk {
         requires reply { IsReplyOf command.now reply.now }
         requires others { AreOthers self.old.reply (exported_file command.now text.items) }
         requires few { self.old.full < 2 ^ 63 }
-        ensures same { IsSame self.old self.new }
+        ensures goes_on { GoesOnPutting self.old self.new (exported_file command.now text.items) }
         ensures answer { OnOk result
             ((a : Answered) → HoldsAnswered self.old a
             → HoldsAnswered self.new (and_answer a command.now reply.now text.items)) }
@@ -75,10 +76,6 @@ impl Desk {
         ensures kept { OnOk result
             (self.new.reply ≢ None
             → KeepsShort self.old self.new (reply_text command.now reply.now) REPLY_PIECE_BYTES) }
-        ensures counted { IsCounted self.old → IsCounted self.new }
-        ensures pieces { (names : List (List ℕ)) → IsNamedIf names self.old.reply
-            → AreIn names (exported_file command.now text.items) → AreFor names (put_at self.old.post)
-            → AreFor names (put_at self.new.post) }
         ensures none { self.old.reply ≡ None → put_at self.new.post ≡ put_at self.old.post }
     {
         self.full += full_of(reply);
@@ -97,11 +94,9 @@ impl Desk {
         outlet: &Outlet,
     ) -> Result<(), OutOfMemory>
         requires { self.old.post.outlet ≡ outlet.now }
-        ensures same { IsSame self.old self.new }
-        ensures ended { OnOk result ((a : Answered) → HoldsAnswered self.old a → IsEnded self.new a) }
-        ensures counted { IsCounted self.old → IsCounted self.new }
-        ensures pieces { (names : List (List ℕ)) → IsNamedIf names self.old.reply
-            → AreFor names (put_at self.old.post) → AreFor names (put_at self.new.post) }
+        ensures goes_on { GoesOnPutting self.old self.new [] }
+        ensures ended { OnOk result
+            ((a : Answered) → HoldsAnswered self.old a → IsEnded self.new a) }
         ensures none { self.old.reply ≡ None → put_at self.new.post ≡ put_at self.old.post }
     {
         if self.lines.is_empty() {
@@ -121,15 +116,13 @@ impl Desk {
     ) -> Result<(), OutOfMemory>
         requires outlet { self.old.post.outlet ≡ outlet.now }
         requires reply { IsReplyOf command.now reply.now }
-        ensures same { IsSame self.old self.new }
-        ensures adds { OnOk result (PutsBehind self.old self.new (reply_text command.now reply.now) []) }
+        ensures goes_on { GoesOnPutting self.old self.new [] }
+        ensures adds { OnOk result
+            (PutsBehind self.old self.new (reply_text command.now reply.now) []) }
         ensures short { OnOk result
             (self.new.reply ≢ None → length self.new.lines.items < REPLY_PIECE_BYTES) }
         ensures kept { OnOk result
             (KeepsShort self.old self.new (reply_text command.now reply.now) REPLY_PIECE_BYTES) }
-        ensures counted { IsCounted self.old → IsCounted self.new }
-        ensures pieces { (names : List (List ℕ)) → IsNamedIf names self.old.reply
-            → AreFor names (put_at self.old.post) → AreFor names (put_at self.new.post) }
     {
         reply_line(alloc, command, reply, &mut self.lines)?;
         if self.lines.len() < REPLY_PIECE_BYTES {
@@ -146,12 +139,9 @@ impl Desk {
         outlet: &Outlet,
     ) -> Result<(), OutOfMemory>
         requires { self.old.post.outlet ≡ outlet.now }
-        ensures same { IsSame self.old self.new }
+        ensures goes_on { GoesOnPutting self.old self.new [] }
         ensures adds { OnOk result (PutsBehind self.old self.new [] []) }
         ensures lines { OnOk result (self.new.reply ≢ None → self.new.lines.items ≡ []) }
-        ensures counted { IsCounted self.old → IsCounted self.new }
-        ensures pieces { (names : List (List ℕ)) → IsNamedIf names self.old.reply
-            → AreFor names (put_at self.old.post) → AreFor names (put_at self.new.post) }
         ensures none { self.old.reply ≡ None → put_at self.new.post ≡ put_at self.old.post }
     {
         let Some(reply) = &self.reply else {
@@ -179,7 +169,8 @@ impl Desk {
             (PutsBehind self.old self.new [] (exported_file command.now text.items)) }
         ensures lines { self.new.lines.items ≡ self.old.lines.items }
         ensures counted { IsCounted self.old → IsCounted self.new }
-        ensures pieces { (names : List (List ℕ)) → AreIn names (exported_file command.now text.items)
+        ensures pieces { (names : List (List ℕ))
+            → AreIn names (exported_file command.now text.items)
             → AreFor names (put_at self.old.post) → AreFor names (put_at self.new.post) }
     {
         if let Command::Export { file, .. } = command {

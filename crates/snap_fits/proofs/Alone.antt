@@ -264,22 +264,7 @@ module _ (s : Setting) (w : ℕ) (fronts : ℕ → Front) (legal : (t : ℕ) →
 
   one_copied : (c : Command) → export_of fronts q c ≡ copied_by a c
   one_copied (command.Export n lo hi file) = copied fronts (q.clones n) (a.clones n) lo hi file (g.clones n)
-  one_copied (command.Table name) = refl
-  one_copied (command.Put k v) = refl
-  one_copied (command.Remove k) = refl
-  one_copied (command.Get k) = refl
-  one_copied (command.Load file) = refl
-  one_copied (command.Snap n name) = refl
-  one_copied (command.Forget n name) = refl
-  one_copied (command.See n k) = refl
-  one_copied (command.First n) = refl
-  one_copied (command.Last n) = refl
-  one_copied (command.Floor n k) = refl
-  one_copied (command.Lower n k) = refl
-  one_copied (command.Ceiling n k) = refl
-  one_copied (command.Higher n k) = refl
-  one_copied (command.Count n lo hi) = refl
-  one_copied (command.Depth n) = refl
+  one_copied _ = refl
 
 module _ (s : Setting) (w : ℕ) (fronts : ℕ → Front) (legal : (t : ℕ) → IsLegal (fronts t).history) (own : (t : ℕ) → AllOwn w (fronts t).history) where
   walk : (q : Matching) (a : Maps) → Follows fronts q a → (ts : List Told) → MeetsAll s w fronts q ts

@@ -302,22 +302,7 @@ same_export s w a (Some c) (Some v) lo hi file fronts h r =
 
 one_export : (s : Setting) (w : ℕ) (q : Matching) (a : Course) (c : Command) (fronts : ℕ → Front) → Agrees w q a → MayReachAll s w a fronts → export_of fronts q c ≡ exported a c
 one_export s w q a (command.Export n lo hi file) fronts g r = same_export s w a (q.clones n) (a.clones n) lo hi file fronts (g.clones n) r
-one_export s w q a (command.Table name) fronts g r = refl
-one_export s w q a (command.Put k v) fronts g r = refl
-one_export s w q a (command.Remove k) fronts g r = refl
-one_export s w q a (command.Get k) fronts g r = refl
-one_export s w q a (command.Load file) fronts g r = refl
-one_export s w q a (command.Snap n name) fronts g r = refl
-one_export s w q a (command.Forget n name) fronts g r = refl
-one_export s w q a (command.See n k) fronts g r = refl
-one_export s w q a (command.First n) fronts g r = refl
-one_export s w q a (command.Last n) fronts g r = refl
-one_export s w q a (command.Floor n k) fronts g r = refl
-one_export s w q a (command.Lower n k) fronts g r = refl
-one_export s w q a (command.Ceiling n k) fronts g r = refl
-one_export s w q a (command.Higher n k) fronts g r = refl
-one_export s w q a (command.Count n lo hi) fronts g r = refl
-one_export s w q a (command.Depth n) fronts g r = refl
+one_export s w q a _ fronts g r = refl
 
 goes_on : (s : Setting) (w : ℕ) (told : List Told) (es : List (List ℕ × Pairs)) (a b : Course) (c : Command) (r : Reply) → SessionOk s w told es a → Steps s a c r b → (m : ℕ) × SessionOk s w (told ++ line c r m ∷ []) (es ++ exported a c) b
 goes_on s w told es a b c r ok h =

@@ -38,7 +38,7 @@ among_last names x = among-push names x x ∙ ap (λ b. among names x || b) (byt
 among_kept : (names : List (List ℕ)) (x name : List ℕ) → among names name ≡ true → among (names ++ x ∷ []) name ≡ true
 among_kept names x name is = among-push names x name ∙ ap (λ b. b || bytes_eq x name) is
 
-taken_in : (names : List (List ℕ)) (x : List ℕ) → among (with_name names x) x ≡ true
+pub taken_in : (names : List (List ℕ)) (x : List ℕ) → among (with_name names x) x ≡ true
 taken_in names x = either (among names x) refl
   where
     either : (b : Bool) → among names x ≡ b → among (cond b names (names ++ x ∷ [])) x ≡ true
@@ -52,7 +52,7 @@ kept names x name is = either (among names x)
     either true = is
     either false = among_kept names x name is
 
-fold_keeps : (names xs : List (List ℕ)) (name : List ℕ) → among names name ≡ true → among (fold with_name names xs) name ≡ true
+pub fold_keeps : (names xs : List (List ℕ)) (name : List ℕ) → among names name ≡ true → among (fold with_name names xs) name ≡ true
 fold_keeps names [] name is = is
 fold_keeps names (x ∷ xs) name is = fold_keeps (with_name names x) xs name (kept names x name is)
 

@@ -14,23 +14,8 @@ use Rattle.snap_run.proofs.{Pairs.Differ, Pairs.differ_left, Pairs.new_differ, R
 
 -- the files that commands export are those that they name
 one_named : (c : Command) → names_of (exported_file c []) ≡ exports_named (c ∷ [])
-one_named (Command.Table name) = refl
-one_named (Command.Put k v) = refl
-one_named (Command.Remove k) = refl
-one_named (Command.Get k) = refl
-one_named (Command.Snap n name) = refl
-one_named (Command.Forget n name) = refl
-one_named (Command.See n k) = refl
-one_named (Command.First n) = refl
-one_named (Command.Last n) = refl
-one_named (Command.Floor n k) = refl
-one_named (Command.Lower n k) = refl
-one_named (Command.Ceiling n k) = refl
-one_named (Command.Higher n k) = refl
-one_named (Command.Count n lo hi) = refl
-one_named (Command.Depth n) = refl
-one_named (Command.Load file) = refl
 one_named (Command.Export n lo hi file) = refl
+one_named _ = refl
 
 script_named : (cs : List Command) → files_named cs ≡ exports_named cs
 script_named [] = refl

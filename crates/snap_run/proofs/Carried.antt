@@ -11,12 +11,14 @@ use Rattle.snap_crew.proofs.Replying.{few_fulls, fulls_told}
 use Rattle.snap_plan.specs.{Needs.all_commands, Needs.exports_named, Runnable.files_written, Runnable.IsRunnable}
 use Rattle.snap_plan.specs.{declared.plan.Plan.Plan}
 use Rattle.snap_write.specs.Outputs.{Outputs, names_of}
+use Rattle.snap_desk.proofs.Told.{reply_names}
+use Rattle.snap_write.proofs.Written.{names_of-append}
 use Rattle.snap_run.specs.{Files.answer_files, Files.last_in, Files.names_written, Files.run_outputs, Files.setting_for}
 use Rattle.snap_run.specs.{Outcomes.OnlyWorkers, Printed.entries, Printed.first_line, Printed.fulls, Printed.summary}
 use Rattle.snap_run.specs.{Printed.table_lines, Reports.fulls_in, Reports.lines_in, Reports.summary_in}
-use Rattle.snap_run.proofs.{Pairs.Differ, Pairs.new_differ, Told.all_fit, Told.AllFit, Told.names_append}
+use Rattle.snap_run.proofs.{Pairs.Differ, Pairs.new_differ, Told.all_fit, Told.AllFit}
 use Rattle.snap_run.proofs.{Told.told_entries, Told.told_exports, Told.told_fulls, Told.told_many, Told.told_names}
-use Rattle.snap_run.proofs.{Told.told_replies, Told.tolds, Writes.last_is, Writes.last_names, Writes.reply_names}
+use Rattle.snap_run.proofs.{Told.told_replies, Told.tolds, Writes.last_is, Writes.last_names}
 
 -- no more replies are full than there are commands
 full_told : (ts : List Told) → fulls_of ts ≤ length ts
@@ -89,13 +91,13 @@ module _ (plan : Plan) (runs : IsRunnable plan) (replied : IfSome plan.replies (
   -- their names, which all differ
   pub outs_named : names_of outs ≡ names_written plan
   outs_named =
-      names_append (answers_in plan.replies bs) (last_in plan.last f.last)
+      names_of-append (answers_in plan.replies bs) (last_in plan.last f.last)
       ∙ ap₂ (λ (a b : List (List ℕ)). a ++ b) (by plan.replies replied) (ap names_of (last_is plan.last f.last (fronts 0) fin.text) ∙ last_names plan.last (fronts 0))
     where
       by : (o : Option (List (List ℕ))) → IfSome o (λ ns. length ns ≡ length plan.scripts) → names_of (answers_in o bs) ≡ answer_names o (exports_named (all_commands plan.scripts))
       by None h = refl
       by (Some names) many =
-          names_append (replies_in names bs) (exports_in bs)
+          names_of-append (replies_in names bs) (exports_in bs)
           ∙ ap₂ (λ (a b : List (List ℕ)). a ++ b) (reply_names names bs (omega (arith, many, fin.answers_each))) (ap names_of (told_exports s fronts 0 plan.scripts bs fit) ∙ told_names s fronts 0 plan.scripts bs fit)
 
   pub files_differ : Differ (names_of outs)

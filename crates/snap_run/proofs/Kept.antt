@@ -10,7 +10,7 @@ use Rattle.snap_write.specs.declared.unwritten.Unwritten.{Unwritten}
 use Rattle.snap_write.proofs.Written.{changes_after, changes_as, text_for-unnamed, whole_begun}
 use Rattle.snap_crew.specs.Prelude.{answer_names, IsAfter, KeepsOthers}
 use Rattle.snap_run.specs.Files.{last_in, names_given, names_written}
-use Rattle.snap_run.proofs.Results.{any_left, any_right}
+use Rattle.snap_desk.proofs.Names.{among_left, among_right}
 
 abbrev Keeps : List (List ℕ) → Option Files → Option Files → Type 0
 Keeps names old new = Changes old new (KeepsOthers names)
@@ -62,7 +62,7 @@ made_named plan name is = by plan.replies is
   where
     by : (o : Option (List (List ℕ))) → among (unwrap_or o []) name ≡ true → among (answer_names o (exports_named (all_commands plan.scripts)) ++ option_to_list plan.last) name ≡ true
     by None is = absurd cc
-    by (Some names) is = any_left (names ++ exports_named (all_commands plan.scripts)) (option_to_list plan.last) name (any_left names (exports_named (all_commands plan.scripts)) name is)
+    by (Some names) is = among_left (names ++ exports_named (all_commands plan.scripts)) (option_to_list plan.last) name (among_left names (exports_named (all_commands plan.scripts)) name is)
 
 pub made_kept : {T E : Type 0} (plan : Plan) (made : Result T E) (old mid : Option Files) → OnOk made (Changes old mid (HasWritten (blank (unwrap_or plan.replies [])))) → OnErr made (Changes old mid (HasBegun (blank (unwrap_or plan.replies [])))) → Keeps (names_written plan) old mid
 made_kept plan made old mid written begun =
@@ -81,10 +81,10 @@ after_kept (Err why) written outs mid new fault after = same_kept (names_of outs
 
 -- those of the workers, and the final file
 pub answers_kept : (plan : Plan) (mid new : Option Files) → Keeps (answer_names plan.replies (exports_named (all_commands plan.scripts))) mid new → Keeps (names_written plan) mid new
-answers_kept plan mid new = wider (answer_names plan.replies (exports_named (all_commands plan.scripts))) (names_written plan) mid new (λ name is. any_left (answer_names plan.replies (exports_named (all_commands plan.scripts))) (option_to_list plan.last) name is)
+answers_kept plan mid new = wider (answer_names plan.replies (exports_named (all_commands plan.scripts))) (names_written plan) mid new (λ name is. among_left (answer_names plan.replies (exports_named (all_commands plan.scripts))) (option_to_list plan.last) name is)
 
 pub last_kept : (plan : Plan) (text : Option (Vec ℕ Global)) (mid new : Option Files) → Keeps (names_of (last_in plan.last text)) mid new → Keeps (names_written plan) mid new
-last_kept plan text mid new = wider (names_of (last_in plan.last text)) (names_written plan) mid new (λ name is. any_right (answer_names plan.replies (exports_named (all_commands plan.scripts))) (option_to_list plan.last) name (by plan.last text name is))
+last_kept plan text mid new = wider (names_of (last_in plan.last text)) (names_written plan) mid new (λ name is. among_right (answer_names plan.replies (exports_named (all_commands plan.scripts))) (option_to_list plan.last) name (by plan.last text name is))
   where
     by : (last : Option (List ℕ)) (text : Option (Vec ℕ Global)) (name : List ℕ) → among (names_of (last_in last text)) name ≡ true → among (option_to_list last) name ≡ true
     by None text name is = absurd cc

@@ -1,7 +1,6 @@
 -- Facts of results, and of what was written before a failure.
-use Rattle.snap_prelude.proofs.Common.{list_any}
-use Rattle.std.proofs.Common.{◌≡◌, ℕ, Bool, true, false, List, ◌++◌, Option, Some, None, inl, inr, Result, Ok, Err, refl, ◌∙◌, ap, ◌||◌, IfOk, OnErr, OnOk, bytes_eq}
-use Rattle.std.proofs.lemmas.List.Folds.{list_any-append}
+use Rattle.std.proofs.Common.{ℕ, List, ◌++◌, Option, Some, None, inl, inr, Result, Ok, Err, IfOk, OnErr, OnOk}
+use Rattle.snap_desk.proofs.Names.{among_left, among_right}
 use Rattle.snap_io.specs.Prelude.{Puts}
 use Rattle.snap_write.specs.{Outputs.IsUnwritten, declared.unwritten.Unwritten.Unwritten}
 use Rattle.snap_run.specs.Worlds.{Tells}
@@ -11,22 +10,12 @@ pub on_ok : {T E : Type 0} (r : Result T E) (P Q : Type 0) → (P → Q) → OnO
 on_ok (Ok x) P Q f h = f h
 on_ok (Err e) P Q f h = tt
 
-pub any_left : (xs ys : List (List ℕ)) (name : List ℕ) → list_any (λ known. bytes_eq known name) xs ≡ true → list_any (λ known. bytes_eq known name) (xs ++ ys) ≡ true
-any_left xs ys name is = list_any-append (λ known. bytes_eq known name) xs ys ∙ ap (λ b. b || list_any (λ known. bytes_eq known name) ys) is
-
-pub any_right : (xs ys : List (List ℕ)) (name : List ℕ) → list_any (λ known. bytes_eq known name) ys ≡ true → list_any (λ known. bytes_eq known name) (xs ++ ys) ≡ true
-any_right xs ys name is = list_any-append (λ known. bytes_eq known name) xs ys ∙ ap (λ b. list_any (λ known. bytes_eq known name) xs || b) is ∙ or_true (list_any (λ known. bytes_eq known name) xs)
-  where
-    or_true : (a : Bool) → (a || true) ≡ true
-    or_true true = refl
-    or_true false = refl
-
 -- one of the first files, or one of the later ones, could not be written
 pub stop_left : (xs ys : List (List ℕ)) (fault wider : Type 0) (w : Unwritten) → (fault → wider) → IsUnwritten xs fault w → IsUnwritten (xs ++ ys) wider w
-stop_left xs ys fault wider w rises u = unwritten_wider xs (xs ++ ys) fault wider w (λ name is. any_left xs ys name is) rises u
+stop_left xs ys fault wider w rises u = unwritten_wider xs (xs ++ ys) fault wider w (λ name is. among_left xs ys name is) rises u
 
 pub stop_right : (xs ys : List (List ℕ)) (fault wider : Type 0) (w : Unwritten) → (fault → wider) → IsUnwritten ys fault w → IsUnwritten (xs ++ ys) wider w
-stop_right xs ys fault wider w rises u = unwritten_wider ys (xs ++ ys) fault wider w (λ name is. any_right xs ys name is) rises u
+stop_right xs ys fault wider w rises u = unwritten_wider ys (xs ++ ys) fault wider w (λ name is. among_right xs ys name is) rises u
 
 -- a text that was put is told
 pub told_by : {T E : Type 0} (before now : Option (List ℕ)) (text : List ℕ) (r : Result T E) (rose : Type 0) → Puts before now text r → OnErr r rose → Tells before now rose text

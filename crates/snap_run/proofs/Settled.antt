@@ -7,11 +7,12 @@ use Rattle.snap_write.specs.Outputs.{HasBegun, HasFront, HasWritten, IsUnwritten
 use Rattle.snap_write.specs.declared.unwritten.Unwritten.{Unwritten}
 use Rattle.snap_write.specs.declared.unwritten.Unwritten.TheVariants as why
 use Rattle.snap_write.proofs.Causes.{rose_before, rose_behind, unwritten_wider}
-use Rattle.snap_write.proofs.Written.{begun_blank, begun_more, blank_for, changes_after, changes_as, text_for-append}
+use Rattle.snap_desk.proofs.Told.{reply_names}
+use Rattle.snap_write.proofs.Written.{begun_blank, begun_more, blank_for, changes_after, changes_as, text_for-append, names_of-append}
 use Rattle.snap_crew.specs.Prelude.{Answered, answers_in, exports_in, IsAfter, IsWrittenOr, replies_in}
 use Rattle.snap_run.specs.{Outcomes.Leaves, Reports.IsReported, Worlds.World}
-use Rattle.snap_run.proofs.{Pairs.Differ, Results.stop_left, Results.stop_right, Told.names_append, Writes.both_written}
-use Rattle.snap_run.proofs.{Writes.first_begun, Writes.reply_names, Writes.second_begun}
+use Rattle.snap_run.proofs.{Pairs.Differ, Results.stop_left, Results.stop_right, Writes.both_written}
+use Rattle.snap_run.proofs.{Writes.first_begun, Writes.second_begun}
 
 -- empty files that are then written, or begun, and more files behind them
 written_over_more : (ys more : Outputs) (f g h : Files) → HasWritten (blank (names_of ys)) f g → HasWritten (ys ++ more) g h → HasWritten (ys ++ more) f h
@@ -63,7 +64,7 @@ module _ (bs : List Answered) (rest : Outputs) where
   first_stop : (o : Option (List (List ℕ))) → length (made_names o) ≤ length bs → (fault wider : Type 0) (w : Unwritten) → (fault → wider) → IsUnwritten (made_names o) fault w → IsUnwritten (names_of (all o)) wider w
   first_stop None few fault wider w rises u = unwritten_wider [] (names_of rest) fault wider w (λ name is. absurd cc) rises u
   first_stop (Some names) few fault wider w rises u =
-      subst (λ ns. IsUnwritten ns wider w) (sym (ap names_of (split names) ∙ names_append (replies_in names bs) (exports_in bs ++ rest) ∙ ap (λ ns. ns ++ names_of (exports_in bs ++ rest)) (reply_names names bs few)))
+      subst (λ ns. IsUnwritten ns wider w) (sym (ap names_of (split names) ∙ names_of-append (replies_in names bs) (exports_in bs ++ rest) ∙ ap (λ ns. ns ++ names_of (exports_in bs ++ rest)) (reply_names names bs few)))
       (stop_left names (names_of (exports_in bs ++ rest)) fault wider w rises u)
 
   pub settled : (o : Option (List (List ℕ))) → length (made_names o) ≤ length bs → (made written : Result (Unit {0}) Unwritten) (old mid new : Option Files) (w0 w1 w2 : ℕ) → w0 ≤ w1 → w1 ≤ w2
@@ -91,12 +92,12 @@ both_after xs ys differ (Err w) first last old mid new w0 w1 w2 l m (same, is) n
 both_after xs ys differ (Ok u) (Ok v) (Ok z) old mid new w0 w1 w2 l m written more = both_written xs ys differ old mid new written more
 both_after xs ys differ (Ok u) (Ok v) (Err w) old mid new w0 w1 w2 l m written (begun, stops) = (
   second_begun xs ys differ old mid new written begun,
-  subst (λ ns. IsUnwritten ns (Rose w0 w2) w) (sym (names_append xs ys)) (stop_right (names_of xs) (names_of ys) (Rose w1 w2) (Rose w0 w2) w (λ rose. rose_behind w0 w1 w2 l rose) stops),
+  subst (λ ns. IsUnwritten ns (Rose w0 w2) w) (sym (names_of-append xs ys)) (stop_right (names_of xs) (names_of ys) (Rose w1 w2) (Rose w0 w2) w (λ rose. rose_behind w0 w1 w2 l rose) stops),
 )
 both_after xs ys differ (Ok u) (Err w) last old mid new w0 w1 w2 l m (begun, stops) (same, is) =
     subst (λ r. IsWrittenOr (xs ++ ys) old new (Rose w0 w2) r) (sym is) (
       subst (λ x. Changes old x (HasBegun (xs ++ ys))) (sym same) (first_begun xs ys differ old mid begun),
-      subst (λ ns. IsUnwritten ns (Rose w0 w2) w) (sym (names_append xs ys)) (stop_left (names_of xs) (names_of ys) (Rose w0 w1) (Rose w0 w2) w (λ rose. rose_before w0 w1 w2 m rose) stops),
+      subst (λ ns. IsUnwritten ns (Rose w0 w2) w) (sym (names_of-append xs ys)) (stop_left (names_of xs) (names_of ys) (Rose w0 w1) (Rose w0 w2) w (λ rose. rose_before w0 w1 w2 m rose) stops),
     )
 
 -- what is left outside

@@ -10,36 +10,7 @@ use Rattle.snap_service.proofs.{Scripts.script_can_run, Slots.AllServed, Slots.I
 use Rattle.snap_crew.specs.Prelude.{script_commands, IsTask}
 use Rattle.snap_plan.specs.{Needs.all_commands, Needs.among, Needs.load_in, Needs.main_table, Needs.table_in}
 use Rattle.snap_plan.specs.{Needs.with_name, Runnable.AllInRange, Runnable.IsRunnable, declared.plan.Plan.Plan}
-use Rattle.snap_plan.proofs.Names.{among-push, bytes_same}
-
-or_true : (b : Bool) → (b || true) ≡ true
-or_true true = refl
-or_true false = refl
-
--- a name that was taken in is there, and those before it stay
-among_last : (names : List (List ℕ)) (x : List ℕ) → among (names ++ x ∷ []) x ≡ true
-among_last names x = among-push names x x ∙ ap (λ b. among names x || b) (bytes_same x) ∙ or_true (among names x)
-
-among_kept : (names : List (List ℕ)) (x name : List ℕ) → among names name ≡ true → among (names ++ x ∷ []) name ≡ true
-among_kept names x name is = among-push names x name ∙ ap (λ b. b || bytes_eq x name) is
-
-taken_in : (names : List (List ℕ)) (x : List ℕ) → among (with_name names x) x ≡ true
-taken_in names x = either (among names x) refl
-  where
-    either : (b : Bool) → among names x ≡ b → among (cond b names (names ++ x ∷ [])) x ≡ true
-    either true is = is
-    either false is = among_last names x
-
-kept : (names : List (List ℕ)) (x name : List ℕ) → among names name ≡ true → among (with_name names x) name ≡ true
-kept names x name is = either (among names x)
-  where
-    either : (b : Bool) → among (cond b names (names ++ x ∷ [])) name ≡ true
-    either true = is
-    either false = among_kept names x name is
-
-fold_keeps : (names xs : List (List ℕ)) (name : List ℕ) → among names name ≡ true → among (fold with_name names xs) name ≡ true
-fold_keeps names [] name is = is
-fold_keeps names (x ∷ xs) name is = fold_keeps (with_name names x) xs name (kept names x name is)
+use Rattle.snap_plan.proofs.Names.{fold_keeps, taken_in}
 
 -- names that some are given to by commands are all among those
 abbrev IfNamed : List (List ℕ) → Option (List ℕ) → Type 0

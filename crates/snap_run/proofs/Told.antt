@@ -7,6 +7,7 @@ use Rattle.snap_prelude.specs.{Command, Pairs, Reply}
 use Rattle.snap_text.specs.{Tables.table_text, declared.script.Line.Line}
 use Rattle.snap_crew.specs.Prelude.{Answered, script_commands, exports_in, files_of, HasFit, replies_in, table_files}
 use Rattle.snap_plan.specs.Needs.{all_commands, export_in, exports_named}
+use Rattle.snap_write.proofs.Written.{names_of-append}
 use Rattle.snap_write.specs.Outputs.{Outputs, names_of}
 use Rattle.snap_run.specs.{Files.export_files, Files.reply_files, Printed.entries, Printed.fulls}
 
@@ -16,26 +17,8 @@ at_clone fronts None m lo hi file P h = absurd h
 at_clone fronts (Some c) m lo hi file P h = refl
 
 one_export : (s : Setting) (w : ℕ) (fronts : ℕ → Front) (q : Matching) (c : Command) (r : Reply) (m : ℕ) → Meets s w fronts q c r m → names_of (table_files (export_of fronts q c)) ≡ exports_named (c ∷ [])
-one_export s w fronts q (Command.Table name) r m h = refl
-one_export s w fronts q (Command.Put k v) r m h = refl
-one_export s w fronts q (Command.Remove k) r m h = refl
-one_export s w fronts q (Command.Get k) r m h = refl
-one_export s w fronts q (Command.Snap n name) r m h = refl
-one_export s w fronts q (Command.Forget n name) r m h = refl
-one_export s w fronts q (Command.See n k) r m h = refl
-one_export s w fronts q (Command.First n) r m h = refl
-one_export s w fronts q (Command.Last n) r m h = refl
-one_export s w fronts q (Command.Floor n k) r m h = refl
-one_export s w fronts q (Command.Lower n k) r m h = refl
-one_export s w fronts q (Command.Ceiling n k) r m h = refl
-one_export s w fronts q (Command.Higher n k) r m h = refl
-one_export s w fronts q (Command.Count n lo hi) r m h = refl
-one_export s w fronts q (Command.Depth n) r m h = refl
-one_export s w fronts q (Command.Load file) r m h = refl
 one_export s w fronts q (Command.Export n lo hi file) r m h = at_clone fronts (q.clones n) m lo hi file _ h
-
-pub names_append : (xs ys : Outputs) → names_of (xs ++ ys) ≡ names_of xs ++ names_of ys
-names_append xs ys = map-append (λ output. output.0) xs ys
+one_export s w fronts q _ r m h = refl
 
 files_append : (es fs : List (List ℕ × Pairs)) → table_files (es ++ fs) ≡ table_files es ++ table_files fs
 files_append es fs = map-append (λ (e : List ℕ × Pairs). (e.0, table_text e.1)) es fs
@@ -44,7 +27,7 @@ export_names : (s : Setting) (w : ℕ) (fronts : ℕ → Front) (q : Matching) (
 export_names s w fronts q [] h = refl
 export_names s w fronts q (t ∷ ts) h =
     ap names_of (files_append (export_of fronts q t.command) (exports_of s fronts (next s q t.command t.reply t.moment) ts))
-    ∙ names_append (table_files (export_of fronts q t.command)) (table_files (exports_of s fronts (next s q t.command t.reply t.moment) ts))
+    ∙ names_of-append (table_files (export_of fronts q t.command)) (table_files (exports_of s fronts (next s q t.command t.reply t.moment) ts))
     ∙ ap₂ (λ (a b : List (List ℕ)). a ++ b) (one_export s w fronts q t.command t.reply t.moment h.0) (export_names s w fronts (next s q t.command t.reply t.moment) ts h.1)
     ∙ sym (filter_map-append export_in (t.command ∷ []) (map (λ (x : Told). x.command) ts))
 
@@ -126,7 +109,7 @@ module _ (s : Setting) (fronts : ℕ → Front) where
   told_names w (x ∷ xs) [] h = absurd h
   told_names w (x ∷ xs) (a ∷ bs) h = let f = h.0 in let more = tolds (w + 1) xs bs h.1 in
       ap names_of (flat_map-cons (files_of s fronts) f.told more)
-      ∙ names_append (files_of s fronts f.told) (export_files s fronts more)
+      ∙ names_of-append (files_of s fronts f.told) (export_files s fronts more)
       ∙ ap₂ (λ (a b : List (List ℕ)). a ++ b) (let g = f.fits in export_names s w fronts start f.told g.each ∙ ap exports_named f.ran) (told_names (w + 1) xs bs h.1)
       ∙ sym (filter_map-append export_in (script_commands x) (all_commands xs))
       ∙ ap exports_named (sym (flat_map-cons script_commands x xs))

@@ -1,26 +1,20 @@
 -- The files of a run, from what the workers handed over.
 use Rattle.std.specs.Global.{Global}
 use Rattle.snap_prelude.proofs.Common.{option_or, option_to_list}
-use Rattle.std.proofs.Common.{zero, suc, ◌≡◌, ◌<◌, ◌≤◌, ℕ, Bool, true, false, List, [], ◌∷◌, ◌++◌, Option, Some, None, length, get_or, refl, ◌∙◌, ap, subst, arith, cond, Vec, bytes_eq, is_some}
+use Rattle.std.proofs.Common.{zero, suc, ◌≡◌, ◌<◌, ℕ, Bool, true, false, List, [], ◌∷◌, ◌++◌, Option, Some, None, length, get_or, refl, ◌∙◌, ap, subst, arith, cond, Vec, bytes_eq, is_some}
 use Rattle.snap_fits.specs.Fits.{Front}
 use Rattle.snap_io.specs.Prelude.{Changes, Files, IfTold}
-use Rattle.snap_crew.specs.Prelude.{Answered, AreBlank, IsTextIf, replies_in}
+use Rattle.snap_crew.specs.Prelude.{AreBlank, IsTextIf}
 use Rattle.snap_write.specs.Outputs.{HasBegun, HasWritten, Outputs, blank, names_of, text_for}
-use Rattle.snap_write.proofs.Causes.{here}
-use Rattle.snap_write.proofs.Written.{after_written, begun_after, begun_more, changes_after, changes_as}
+use Rattle.snap_write.proofs.Causes.{same_name}
+use Rattle.snap_write.proofs.Written.{after_written, begun_after, begun_more, changes_after, changes_as, names_of-append}
 use Rattle.snap_run.specs.Files.{last_file, last_in}
-use Rattle.snap_run.proofs.{Pairs.Differ, Pairs.differ_apart, Pairs.differ_left, Pairs.differ_right, Told.names_append}
-
--- reply files
-pub reply_names : (names : List (List ℕ)) (answers : List Answered) → length names ≤ length answers → names_of (replies_in names answers) ≡ names
-reply_names [] answers few = refl
-reply_names (n ∷ names) [] few = absurd (omega (arith, few))
-reply_names (n ∷ names) (a ∷ answers) few = ap (λ ns. n ∷ ns) (reply_names names answers (omega (arith, few)))
+use Rattle.snap_run.proofs.{Pairs.Differ, Pairs.differ_apart, Pairs.differ_left, Pairs.differ_right}
 
 -- files that were made are empty
 blank_text : (names : List (List ℕ)) (i : ℕ) (d : List ℕ) → i < length names → text_for (blank names) (get_or names i d) ≡ Some []
 blank_text [] i d l = absurd (omega (arith, l))
-blank_text (n ∷ names) zero d l = same (bytes_eq n n) (here n)
+blank_text (n ∷ names) zero d l = same (bytes_eq n n) (same_name n)
   where
     same : (b : Bool) → b ≡ true → cond b (Some []) (text_for (blank names) n) ≡ Some []
     same true e = refl
@@ -40,7 +34,7 @@ made_blank names (Some f) (Some g) made = λ i d l. made (get_or names i d) ∙ 
 -- files of two lists, one after the other
 module _ (xs ys : Outputs) (all : Differ (names_of (xs ++ ys))) where
   both : Differ (names_of xs ++ names_of ys)
-  both = subst (λ (ns : List (List ℕ)). Differ ns) (names_append xs ys) all
+  both = subst (λ (ns : List (List ℕ)). Differ ns) (names_of-append xs ys) all
 
   pub left_differ : Differ (names_of xs)
   left_differ = differ_left (names_of xs) (names_of ys) both

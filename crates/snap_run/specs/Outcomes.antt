@@ -1,7 +1,6 @@
 -- What a run comes to. Its words and files give a plan, or the first thing by which it is stopped;
 -- a plan is carried out.
-use Rattle.std.specs.Prelude.{◌≡◌, ◌≢◌, ◌<◌, ◌≤◌, ◌⊎◌, ℕ, List, [], ◌∷◌, Option, None, Result, Ok, Err, IsTrue, ⊤, bytes_eq, length, map, slice_index_or}
-use Rattle.std.specs.List.{list_any}
+use Rattle.std.specs.Prelude.{◌≡◌, ◌≢◌, ◌<◌, ◌≤◌, ◌⊎◌, ℕ, List, [], ◌∷◌, Option, None, Result, Ok, Err, ⊤, length, map, slice_index_or}
 use Rattle.snap_fits.specs.Fits.{Fits, Front, Told}
 use Rattle.snap_io.specs.Prelude.{Changes, IfTold, Rose}
 use Rattle.snap_prelude.specs.{calls_of, Ended}
@@ -13,7 +12,7 @@ use Rattle.snap_plan.specs.{declared.stop.Stop.Stop}
 use Rattle.snap_plan.specs.declared.stop.Stop.TheVariants as stop
 use Rattle.snap_words.specs.{Words.job_of, declared.words.Job.Job, declared.words.Work.Work}
 use Rattle.snap_words.specs.{declared.words.Work.TheVariants.Made, declared.words.WordsRefusal.WordsRefusal}
-use Rattle.snap_write.specs.Outputs.{HasBegun, HasWritten, Outputs, names_of}
+use Rattle.snap_write.specs.Outputs.{HasBegun, HasWritten, IsNamed, Outputs, names_of}
 use Rattle.snap_run.specs.{Files.run_outputs, Files.setting_for, Printed.fault_text, Printed.fulls, Printed.summary}
 use Rattle.snap_run.specs.{Worlds.Adds, Worlds.AddsPart, Worlds.Tells, Worlds.World, declared.outcome.Outcome.Outcome}
 
@@ -28,7 +27,7 @@ pub record IsCutOff (files : Outputs) (old now : World) : Type 0 where
   pub faulted : Rose old.writing now.writing
   pub begun : Changes old.files now.files (HasBegun files)
   pub name : List ℕ
-  pub named : IsTrue (list_any (λ known. bytes_eq known name) (names_of files))
+  pub named : IsNamed (names_of files) name
   pub said : Tells old.printed now.printed (Rose old.printing now.printing) (fault_text name)
 
 -- all files have their texts, and the summary could not be printed whole

@@ -1,11 +1,10 @@
 -- Why a file could not be written.
 use Rattle.std.specs.Prelude.{◌||◌, IsErrAnd, IfErr, bytes_eq}
-use Rattle.std.specs.List.{list_any}
 use Rattle.std.proofs.Common.{◌≡◌, ◌⊎◌, ◌≤◌, ◌<◌, ℕ, Bool, true, false, List, [], ◌∷◌, get_or, length, Result, Ok, Err, inl, inr, refl, sym, ◌∙◌, ap, subst, arith}
 use Rattle.std.proofs.lemmas.List.Folds.{list_any_at}
 use Rattle.std.proofs.lemmas.Slice.Eq.{bytes_eq-Decides}
 use Rattle.snap_io.specs.Causes.{Rose}
-use Rattle.snap_write.specs.Outputs.{IsUnwritten}
+use Rattle.snap_write.specs.Outputs.{IsUnwritten, is_named}
 use Rattle.snap_write.specs.declared.unwritten.Unwritten.{Unwritten}
 use Rattle.snap_write.specs.declared.unwritten.Unwritten.TheVariants as why
 
@@ -15,20 +14,20 @@ rose_behind a b c later rose = omega arith
 pub rose_before : (a b c : ℕ) → b ≤ c → Rose a b → Rose a c
 rose_before a b c later rose = omega arith
 
-pub here : (name : List ℕ) → bytes_eq name name ≡ true
-here name = (bytes_eq-Decides name name).1 refl
+pub same_name : (name : List ℕ) → bytes_eq name name ≡ true
+same_name name = (bytes_eq-Decides name name).1 refl
 
 -- one file, or another of the same list
 pub unwritten_file : (file : List ℕ) (fault : Type 0) (w : Unwritten) → (w ≡ why.Memory) ⊎ (w ≡ why.File file) → fault → IsUnwritten (file ∷ []) fault w
 unwritten_file file fault w (inl e) f = subst (IsUnwritten (file ∷ []) fault) (sym e) f
-unwritten_file file fault w (inr e) f = subst (IsUnwritten (file ∷ []) fault) (sym e) (ap (λ b. b || false) (here file), f)
+unwritten_file file fault w (inr e) f = subst (IsUnwritten (file ∷ []) fault) (sym e) (ap (λ b. b || false) (same_name file), f)
 
-pub unwritten_wider : (names more : List (List ℕ)) (fault wider : Type 0) (w : Unwritten) → ((name : List ℕ) → list_any (λ known. bytes_eq known name) names ≡ true → list_any (λ known. bytes_eq known name) more ≡ true) → (fault → wider) → IsUnwritten names fault w → IsUnwritten more wider w
+pub unwritten_wider : (names more : List (List ℕ)) (fault wider : Type 0) (w : Unwritten) → ((name : List ℕ) → is_named names name ≡ true → is_named more name ≡ true) → (fault → wider) → IsUnwritten names fault w → IsUnwritten more wider w
 unwritten_wider names more fault wider why.Memory within rises u = rises u
 unwritten_wider names more fault wider (why.File file) within rises u = (within file u.0, rises u.1)
 
 -- a name that stands at a place of the list
-one_at : (names : List (List ℕ)) (i : ℕ) (d x name : List ℕ) → i < length names → x ≡ get_or names i d → list_any (λ known. bytes_eq known name) (x ∷ []) ≡ true → list_any (λ known. bytes_eq known name) names ≡ true
+one_at : (names : List (List ℕ)) (i : ℕ) (d x name : List ℕ) → i < length names → x ≡ get_or names i d → is_named (x ∷ []) name ≡ true → is_named names name ≡ true
 one_at names i d x name within is one = list_any_at (λ known. bytes_eq known name) names i d within (ap (λ n. bytes_eq n name) (sym is) ∙ alone (bytes_eq x name) one)
   where
     alone : (b : Bool) → (b || false) ≡ true → b ≡ true

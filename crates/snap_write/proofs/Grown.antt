@@ -1,12 +1,12 @@
 -- Files that grow piece by piece: what several pieces make of them.
 use Rattle.std.proofs.Common.{◌≡◌, ◌≢◌, ◌⊎◌, suc, zero, ℕ, Bool, true, false, cond, List, [], ◌∷◌, ◌++◌, Option, Some, None, refl, sym, ◌∙◌, ap, subst, inl, inr, append_assoc, arith}
 use Rattle.std.specs.Prelude.{All, bytes_eq}
-use Rattle.std.specs.List.{list_any}
 use Rattle.std.specs.Option.{option_map}
 use Rattle.std.proofs.lemmas.List.Elements.{filter-append}
 use Rattle.std.proofs.lemmas.Slice.Eq.{bytes_eq-Decides}
 use Rattle.snap_io.specs.Shelves.{Files}
-use Rattle.snap_write.specs.Pieces.{FilePiece, HasPut, HasPutPart, IsNamed, after_piece, after_pieces, front_piece, of_file}
+use Rattle.snap_write.specs.Outputs.{IsNamed, is_named}
+use Rattle.snap_write.specs.Pieces.{FilePiece, HasPut, HasPutPart, after_piece, after_pieces, front_piece, of_file}
 
 pub of_file-append : (name : List ℕ) (ps qs : List FilePiece) → of_file name (ps ++ qs) ≡ of_file name ps ++ of_file name qs
 of_file-append name ps qs = filter-append (λ (p : FilePiece). bytes_eq p.file name) ps qs
@@ -30,7 +30,7 @@ part_after ps qs p f g h first (inr part) =
     inr (part.0, subst (λ rs. HasPut rs f h) (sym (append_assoc ps qs (front_piece part.0 p ∷ []))) (after_put ps (qs ++ front_piece part.0 p ∷ []) f g h first part.1))
 
 -- a file that has no piece stays
-no_piece : (names : List (List ℕ)) (ps : List FilePiece) (name : List ℕ) → list_any (λ known. bytes_eq known name) names ≡ false → All (λ p. IsNamed names p.file) ps → of_file name ps ≡ []
+no_piece : (names : List (List ℕ)) (ps : List FilePiece) (name : List ℕ) → is_named names name ≡ false → All (λ p. IsNamed names p.file) ps → of_file name ps ≡ []
 no_piece names [] name none all = refl
 no_piece names (p ∷ ps) name none all = either (bytes_eq p.file name) refl (no_piece names ps name none (λ i d l. all (suc i) d (omega (arith, l))))
   where
@@ -41,9 +41,9 @@ no_piece names (p ∷ ps) name none all = either (bytes_eq p.file name) refl (no
         let both : false ≡ true = sym none ∙ there in cc
 
 pub put_keeps : (names : List (List ℕ)) (ps : List FilePiece) (f g : Files) → All (λ p. IsNamed names p.file) ps → HasPut ps f g → (name : List ℕ) → (g name ≡ f name) ⊎ IsNamed names name
-put_keeps names ps f g all put name = either (list_any (λ known. bytes_eq known name) names) refl
+put_keeps names ps f g all put name = either (is_named names name) refl
   where
-    either : (b : Bool) → list_any (λ known. bytes_eq known name) names ≡ b → (g name ≡ f name) ⊎ IsNamed names name
+    either : (b : Bool) → is_named names name ≡ b → (g name ≡ f name) ⊎ IsNamed names name
     either true is = inr is
     either false is = inl (put name ∙ ap (λ qs. after_pieces (f name) qs) (no_piece names ps name is all))
 

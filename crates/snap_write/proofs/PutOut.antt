@@ -1,7 +1,6 @@
 -- What several writers put out, piece by piece, is their files with their texts.
 use Rattle.std.proofs.Common.{◌≡◌, ◌≢◌, ◌==◌, ◌⊎◌, ◌<◌, ◌≤◌, ◌+◌, suc, zero, ℕ, Bool, true, false, cond, List, [], ◌∷◌, ◌++◌, length, get_or, take, Option, Some, None, refl, sym, ◌∙◌, ap, subst, inl, inr, append-nil, append_assoc, arith, eq-eqb, ne_eqb, eqb-true}
 use Rattle.std.specs.Prelude.{◌||◌, All, IsTrue, bytes_eq, filter, flat_map, map, not}
-use Rattle.std.specs.List.{list_any}
 use Rattle.std.specs.Option.{option_map, option_or}
 use Rattle.std.proofs.Math.Seq.{take-length}
 use Rattle.std.proofs.lemmas.Bool.{eqb-false}
@@ -9,8 +8,9 @@ use Rattle.std.proofs.lemmas.Grind.{flat_map-append}
 use Rattle.std.proofs.lemmas.List.{map-append}
 use Rattle.std.proofs.lemmas.Slice.Eq.{bytes_eq-Decides}
 use Rattle.snap_io.specs.Shelves.{Files}
-use Rattle.snap_write.specs.Outputs.{HasBegun, HasFront, HasWritten, Outputs, names_of, text_for}
-use Rattle.snap_write.specs.Pieces.{AreEmpty, ArePutOut, FilePiece, HasPut, HasPutPart, IsNamed, PutsOut, after_piece, after_pieces, files_put, front_piece, made_beside, of_file, of_writer}
+use Rattle.snap_write.specs.Outputs.{HasBegun, HasFront, HasWritten, IsNamed, Outputs, is_named, names_of, text_for}
+use Rattle.snap_write.specs.Pieces.{AreEmpty, ArePutOut, FilePiece, HasPut, HasPutPart, PutsOut, after_piece, after_pieces, files_put, front_piece, made_beside, of_file, of_writer}
+use Rattle.snap_write.proofs.Causes.{same_name}
 use Rattle.snap_write.proofs.Counts.{count, held, held-append, once, one_share, owner, share, text_at, text_none, total, two_shares}
 use Rattle.snap_write.proofs.Grown.{of_file-append}
 
@@ -334,12 +334,9 @@ named_held : (name : List ℕ) (names : List (List ℕ)) → 1 ≤ count name na
 named_held name [] l = absurd (omega (arith, l))
 named_held name (n ∷ names) l = either (bytes_eq n name) l (named_held name names)
   where
-    either : (b : Bool) → 1 ≤ cond b (suc (count name names)) (count name names) → (1 ≤ count name names → IsNamed names name) → IsTrue (b || list_any (λ known. bytes_eq known name) names)
+    either : (b : Bool) → 1 ≤ cond b (suc (count name names)) (count name names) → (1 ≤ count name names → IsNamed names name) → IsTrue (b || is_named names name)
     either true l rest = refl
     either false l rest = rest l
-
-here : (name : List ℕ) → bytes_eq name name ≡ true
-here name = (bytes_eq-Decides name name).1 refl
 
 pub named_among : (replies : Outputs) (exports : List Outputs) (done : List (ℕ × FilePiece)) (p : ℕ × FilePiece) (rest : List (ℕ × FilePiece)) → ArePutOut replies exports (done ++ p ∷ rest) → IsNamed (names_of (files_put replies exports)) p.1.file
 named_among replies exports done p rest out = named_held p.1.file (names_of (files_put replies exports)) (either (held p.1.file (files_put replies exports)) refl)
@@ -354,7 +351,7 @@ named_among replies exports done p rest out = named_held p.1.file (names_of (fil
     none : held name (files_put replies exports) ≡ 0 → ⊥
     none zero_held = let all = done ++ p ∷ rest in
         some (of_file name (pieces_in done)) (of_file name (pieces_in rest))
-        (ap (λ c. of_file name (pieces_in done) ++ cond c (p.1 ∷ of_file name (pieces_in rest)) (of_file name (pieces_in rest))) (sym (here name))
+        (ap (λ c. of_file name (pieces_in done) ++ cond c (p.1 ∷ of_file name (pieces_in rest)) (of_file name (pieces_in rest))) (sym (same_name name))
         ∙ sym (split name done (p ∷ rest))
         ∙ nobodys name (length replies) all out.writers
         (λ j l. idle name (get_or replies j ([], [])) (get_or exports j []) (of_writer j all) (out.each j ([], []) [] l)

@@ -1,14 +1,15 @@
 -- What was written, from what each write did.
 use Rattle.std.proofs.Common.{◌≡◌, ◌≢◌, ◌⊎◌, ◌<◌, ◌+◌, suc, zero, ℕ, Bool, true, false, cond, List, [], ◌∷◌, ◌++◌, length, get_or, take, drop, Option, Some, None, Result, Ok, Err, refl, sym, ◌∙◌, ap, subst, inl, inr, append_assoc, arith}
 use Rattle.std.specs.Prelude.{◌||◌, AllPairs, bytes_eq, OnErr}
-use Rattle.std.specs.List.{list_any}
 use Rattle.std.specs.Option.{option_map, option_or}
 use Rattle.std.proofs.Math.Seq.{take-length}
-use Rattle.std.proofs.lemmas.List.{drop_more, get_or-take, length-take-le, take-append-drop, take_more}
+use Rattle.std.proofs.lemmas.List.{drop_more, get_or-take, length-take-le, map-append, take-append-drop, take_more}
 use Rattle.std.proofs.lemmas.Slice.Eq.{bytes_eq-Decides}
 use Rattle.snap_io.specs.Shelves.{Files, IfTold, Changes}
-use Rattle.snap_write.specs.Outputs.{HasBegun, HasFront, HasWritten, Outputs, blank, names_of, text_for}
-use Rattle.snap_write.proofs.Causes.{here}
+use Rattle.snap_write.specs.Outputs.{HasBegun, HasFront, HasWritten, Outputs, blank, is_named, names_of, text_for}
+
+pub names_of-append : (xs ys : Outputs) → names_of (xs ++ ys) ≡ names_of xs ++ names_of ys
+names_of-append xs ys = map-append (λ output. output.0) xs ys
 
 -- the texts of files in two lists
 pub text_for-append : (xs ys : Outputs) (name : List ℕ) → text_for (xs ++ ys) name ≡ option_or (text_for xs name) (text_for ys name)
@@ -20,11 +21,11 @@ text_for-append (x ∷ xs) ys name = either (bytes_eq x.0 name) (text_for-append
     either false below = below
 
 -- a file that isn't named has no text
-pub text_for-unnamed : (xs : Outputs) (name : List ℕ) → list_any (λ known. bytes_eq known name) (names_of xs) ≡ false → text_for xs name ≡ None
+pub text_for-unnamed : (xs : Outputs) (name : List ℕ) → is_named (names_of xs) name ≡ false → text_for xs name ≡ None
 text_for-unnamed [] name is = refl
 text_for-unnamed (x ∷ xs) name is = either (bytes_eq x.0 name) is (λ rest. text_for-unnamed xs name rest)
   where
-    either : (b : Bool) → (b || list_any (λ known. bytes_eq known name) (names_of xs)) ≡ false → (list_any (λ known. bytes_eq known name) (names_of xs) ≡ false → text_for xs name ≡ None) → cond b (Some x.1) (text_for xs name) ≡ None
+    either : (b : Bool) → (b || is_named (names_of xs) name) ≡ false → (is_named (names_of xs) name ≡ false → text_for xs name ≡ None) → cond b (Some x.1) (text_for xs name) ≡ None
     either true is below = absurd cc
     either false is below = below is
 
@@ -32,11 +33,11 @@ text_for-unnamed (x ∷ xs) name is = either (bytes_eq x.0 name) is (λ rest. te
 abbrev pub Apart : Outputs → Outputs → Type 0
 Apart xs ys = (name : List ℕ) → (text_for xs name ≡ None) ⊎ (text_for ys name ≡ None)
 
-pub apart_last : (xs : Outputs) (y : List ℕ × List ℕ) → list_any (λ known. bytes_eq known y.0) (names_of xs) ≡ false → Apart xs (y ∷ [])
+pub apart_last : (xs : Outputs) (y : List ℕ × List ℕ) → is_named (names_of xs) y.0 ≡ false → Apart xs (y ∷ [])
 apart_last xs y is name = either (bytes_eq y.0 name) refl
   where
     either : (b : Bool) → bytes_eq y.0 name ≡ b → (text_for xs name ≡ None) ⊎ (cond b (Some y.1) None ≡ None)
-    either true here = inl (text_for-unnamed xs name (ap (λ n. list_any (λ known. bytes_eq known n) (names_of xs)) (sym ((bytes_eq-Decides y.0 name).0 here)) ∙ is))
+    either true here = inl (text_for-unnamed xs name (ap (λ n. is_named (names_of xs) n) (sym ((bytes_eq-Decides y.0 name).0 here)) ∙ is))
     either false away = inr refl
 
 -- what was written after what
@@ -154,15 +155,15 @@ whole_begun ys f g written name = join (text_for ys name) (written name)
     join (Some t) is = inr (length t, is ∙ ap Some (sym (take-length t)))
 
 -- a file that isn't written stays
-pub stays : (xs : Outputs) (name : List ℕ) (f g : Files) → list_any (λ known. bytes_eq known name) (names_of xs) ≡ false → HasWritten xs f g → g name ≡ f name
+pub stays : (xs : Outputs) (name : List ℕ) (f g : Files) → is_named (names_of xs) name ≡ false → HasWritten xs f g → g name ≡ f name
 stays xs name f g is written = written name ∙ ap (λ o. option_or o (f name)) (text_for-unnamed xs name is)
 
 -- names that all differ: each of them is none of those before it
-pub not_among : (names : List (List ℕ)) (n : List ℕ) → ((k : ℕ) (d : List ℕ) → k < length names → get_or names k d ≢ n) → list_any (λ known. bytes_eq known n) names ≡ false
+pub not_among : (names : List (List ℕ)) (n : List ℕ) → ((k : ℕ) (d : List ℕ) → k < length names → get_or names k d ≢ n) → is_named names n ≡ false
 not_among [] n all = refl
 not_among (x ∷ names) n all = either (bytes_eq x n) refl (not_among names n (λ k d l. all (suc k) d (omega (arith, l))))
   where
-    either : (b : Bool) → bytes_eq x n ≡ b → list_any (λ known. bytes_eq known n) names ≡ false → (b || list_any (λ known. bytes_eq known n) names) ≡ false
+    either : (b : Bool) → bytes_eq x n ≡ b → is_named names n ≡ false → (b || is_named names n) ≡ false
     either true is rest = absurd (all 0 n (omega arith) ((bytes_eq-Decides x n).0 is))
     either false is rest = rest
 
@@ -181,9 +182,9 @@ pub names-length : (xs : Outputs) → length (names_of xs) ≡ length xs
 names-length [] = refl
 names-length (x ∷ xs) = ap (λ n. suc n) (names-length xs)
 
-pub new_here : (xs : Outputs) (i : ℕ) (x : List ℕ × List ℕ) → AllPairs (λ a b. a ≢ b) (names_of xs) → i < length xs → x ≡ get_or xs i x → list_any (λ known. bytes_eq known x.0) (names_of (take i xs)) ≡ false
+pub new_here : (xs : Outputs) (i : ℕ) (x : List ℕ × List ℕ) → AllPairs (λ a b. a ≢ b) (names_of xs) → i < length xs → x ≡ get_or xs i x → is_named (names_of (take i xs)) x.0 ≡ false
 new_here xs i x all within is =
-    ap (λ ns. list_any (λ known. bytes_eq known x.0) ns) (sym (names-take xs i))
+    ap (λ ns. is_named ns x.0) (sym (names-take xs i))
     ∙ not_among (take i (names_of xs)) x.0 (λ k d l same.
     let many : length (take i (names_of xs)) ≡ i = length-take-le i (names_of xs) (omega (arith, within, names-length xs)) in
     let at : get_or (names_of xs) k d ≡ get_or (names_of xs) i d = sym (get_or-take i (names_of xs) k d (omega (arith, l, many))) ∙ same ∙ ap (λ (y : List ℕ × List ℕ). y.0) is ∙ sym (names-at xs i x) ∙ other (names_of xs) i x.0 d (omega (arith, within, names-length xs)) in

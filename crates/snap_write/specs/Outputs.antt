@@ -1,5 +1,5 @@
 -- Files that are written, each with its text; what holds of all files once they are, and before.
-use Rattle.std.specs.Prelude.{◌≡◌, ◌⊎◌, ℕ, List, [], Option, Some, None, IsTrue, take, map, bytes_eq}
+use Rattle.std.specs.Prelude.{◌≡◌, ◌⊎◌, ℕ, Bool, List, [], Option, Some, None, IsTrue, take, map, bytes_eq}
 use Rattle.std.specs.List.{list_any}
 use Rattle.std.specs.Option.{option_or}
 use Rattle.std.specs.Map.{lookup}
@@ -37,8 +37,14 @@ abbrev pub HasBegun : Outputs → Files → Files → Type 0
 HasBegun outputs old new =
     (name : List ℕ) → (new name ≡ old name) ⊎ HasFront (text_for outputs name) (new name)
 
+-- one of these names
+abbrev pub is_named : List (List ℕ) → List ℕ → Bool
+is_named names name = list_any (λ known. bytes_eq known name) names
+
+abbrev pub IsNamed : List (List ℕ) → List ℕ → Type 0
+IsNamed names name = IsTrue (is_named names name)
+
 -- a write failed, of one of these files, for whose name memory may be wanting
 abbrev pub IsUnwritten : List (List ℕ) → Type 0 → Unwritten → Type 0
 IsUnwritten names write_fault why.Memory = write_fault
-IsUnwritten names write_fault (why.File file) =
-    IsTrue (list_any (λ known. bytes_eq known file) names) × write_fault
+IsUnwritten names write_fault (why.File file) = IsNamed names file × write_fault

@@ -1,6 +1,5 @@
 -- Files that are written piece by piece, by several writers; what holds of all files meanwhile.
-use Rattle.std.specs.Prelude.{◌≡◌, ◌≢◌, ◌==◌, ◌<◌, ◌⊎◌, ℕ, Bool, false, cond, not, IsTrue, List, [], ◌∷◌, ◌++◌, Option, Some, None, All, AllPairs, bytes_eq, filter, flat_map, length, map, slice_index_or, take}
-use Rattle.std.specs.List.{list_any}
+use Rattle.std.specs.Prelude.{◌≡◌, ◌≢◌, ◌==◌, ◌<◌, ◌⊎◌, ℕ, Bool, false, cond, not, List, [], ◌∷◌, ◌++◌, Option, Some, None, All, AllPairs, bytes_eq, filter, flat_map, length, map, slice_index_or, take}
 use Rattle.std.specs.Option.{option_map}
 use Rattle.snap_io.specs.Shelves.{Files}
 use Rattle.snap_write.specs.Outputs.{Outputs, names_of}
@@ -39,10 +38,6 @@ HasPutPart pieces p old new = HasPut pieces old new
 -- the file of an added piece is there
 abbrev pub IsThereToAdd : Bool → List ℕ → Files → Type 0
 IsThereToAdd makes name files = makes ≡ false → files name ≢ None
-
--- one of these names
-abbrev pub IsNamed : List (List ℕ) → List ℕ → Type 0
-IsNamed names name = IsTrue (list_any (λ known. bytes_eq known name) names)
 
 -- the texts of the pieces of a file, one behind the other
 abbrev pub added : List ℕ → List FilePiece → List ℕ

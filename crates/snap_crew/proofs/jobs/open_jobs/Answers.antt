@@ -12,7 +12,7 @@ pub open-requires : goal.open-requires
 open-requires c =
     let v = c.loop-kit.invariant in let fewer = c.pop.new.self.items in let kit = c.in-Some.kit in
     let one = one_less c.args.kits.items c.loop-kit.left.items fewer kit v.left c.in-Some.ensures.items in
-    let is : kit ≡ new_kit c.args.service.now.laid (length fewer) = last_is c.args.kits.items c.loop-kit.left.items fewer kit v.left c.in-Some.ensures.items [] ∙ c.requires.kits (length fewer) [] (omega (arith, one, v.all, c.requires.a_kit_each)) in
+    let is : kit ≡ new_kit c.args.service.now.laid (length fewer) = last_is c.args.kits.items c.loop-kit.left.items fewer kit v.left c.in-Some.ensures.items [] ∙ c.requires.new (length fewer) [] (omega (arith, one, v.all, c.requires.a_kit_each)) in
     subst (λ (k : List Known). AreSeated c.args.service.now k) (sym is) (new_seated c.args.service.now (length fewer))
 
 pub loop-kit-preserved : goal.loop-kit-preserved
@@ -21,7 +21,7 @@ loop-kit-preserved c =
     let one = one_less c.args.kits.items c.loop-kit.left.items fewer kit v.left c.in-Some.ensures.items in
     let within : length fewer < length scripts = omega (arith, one, v.all, c.requires.a_kit_each) in
     let here : place ≡ length fewer = omega (arith, c.len-place.ensures, c.pop.new.self.ok.0) in
-    let is : kit ≡ new_kit c.args.service.now.laid (length fewer) = last_is c.args.kits.items c.loop-kit.left.items fewer kit v.left c.in-Some.ensures.items [] ∙ c.requires.kits (length fewer) [] within in
+    let is : kit ≡ new_kit c.args.service.now.laid (length fewer) = last_is c.args.kits.items c.loop-kit.left.items fewer kit v.left c.in-Some.ensures.items [] ∙ c.requires.new (length fewer) [] within in
     let script : (d : List Line) → c.lines.result.now ≡ slice_index_or scripts (length fewer) d = λ d. c.lines.ensures ∙ place_is scripts place (length fewer) c.index-scripts-place.result d within here c.index-scripts-place.is in
     let job : Job = record { session = c.in-Ok.session; script = c.lines.result; who = place } in
     record {
@@ -33,7 +33,7 @@ loop-kit-preserved c =
             who_is = here;
             commands_are = ap script_commands (script d);
             on = c.in-Ok.ensures.ok ∙ ap (λ (k : List Known). new_session c.args.service.now k) is;
-            can = can_work c.args.loads.now c.args.service.now (length fewer) kit c.in-Ok.session (script_commands (slice_index_or scripts (length fewer) d)) is c.in-Ok.ensures.ok c.in-Ok.ensures.begins (c.requires.scripts (length fewer) d within);
+            can = can_work c.args.loads.now c.args.service.now (length fewer) kit c.in-Ok.session (script_commands (slice_index_or scripts (length fewer) d)) is c.in-Ok.ensures.ok c.in-Ok.ensures.begins (c.requires.scripts_run (length fewer) d within);
           }) (v.jobs d);
     }
 

@@ -1,9 +1,10 @@
-use Rattle.std.proofs.Common.{◌≡◌, ◌<◌, ℕ, List, ap, sym, subst, ◌∙◌, length, arith, map, slice_index_or}
+use Rattle.std.proofs.Common.{◌≡◌, ◌<◌, ℕ, List, ap, refl, sym, subst, ◌∙◌, length, arith, map, slice_index_or}
 use Rattle.std.specs.Prelude.{All}
 use Rattle.snap_outlet.specs.Posts.{AreNumbered, PostAt}
 use Rattle.snap_service.specs.Prelude.{AreSeated}
 use Rattle.snap_crew.specs.{Leaving.done_of, Leaving.RunsAll, Seats.HasSat, declared.leaving.Done.Done}
 use Rattle.snap_crew.specs.{declared.seats.Seat.Seat}
+use Rattle.snap_desk.proofs.Gathering.{goes_on_more}
 use Rattle.snap_crew.proofs.Left.{lent_back, posts_numbered, posts_outlet, runs_all}
 use Rattle.snap_crew.proofs.leaving.run_all.Goals as goal
 
@@ -37,3 +38,13 @@ settle-requires-clause-numbered g c =
     subst (λ (ps : List PostAt). AreNumbered 0 ps) (sym (c.leave.ensures.posts ∙ ap (map (λ (s : Seat). s.desk.post)) back))
     (posts_numbered c.args.loads.now c.args.outlet.now c.args.seats.items new even
     (subst (λ (xs : List Seat). (i : ℕ) (d : Seat) → i < length xs → HasSat c.args.loads.now (slice_index_or xs i d) (slice_index_or new i d)) value c.do_beside.ensures.sat) c.requires.numbered)
+
+pub settle-requires-clause-can : goal.settle-requires-clause-can
+settle-requires-clause-can g c =
+    let drains = c.do_beside.ensures.drains in let took = drains.takes in let on = c.do_beside.ensures.goes_on in
+    record { outlet_is = took.outlet ∙ c.requires.can.outlet_is; ready = on.ready }
+
+pub returns-clause-goes_on : goal.returns-clause-goes_on
+returns-clause-goes_on g c =
+    let d = c.do_beside.new.collector in let drains = c.do_beside.ensures.drains in let came = drains.collects in
+    goes_on_more g.S.Shelf.files g.S.Shelf.read_faults c.args.collector.now d d c.settle.new.collector c.args.shelf.now c.do_beside.new.shelf c.settle.new.shelf came.names refl c.do_beside.ensures.goes_on c.settle.ensures.goes_on

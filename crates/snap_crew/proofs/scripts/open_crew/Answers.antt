@@ -1,7 +1,7 @@
 use Rattle.std.proofs.Common.{◌<◌, ◌∙◌, length, slice_index_or, ap, subst, sym, arith}
 use Rattle.snap_crew.specs.Prelude.{script_commands, IsJob, Job}
 use Rattle.snap_outlet.specs.Posts.{put_at}
-use Rattle.snap_crew.proofs.Beginning.{some_of}
+use Rattle.snap_desk.proofs.Names.{some_of}
 use Rattle.snap_crew.proofs.scripts.open_crew.Goals as goal
 
 pub returns : goal.returns

@@ -1,9 +1,11 @@
 use Rattle.std.proofs.Common.{◌≡◌, ◌<◌, ◌+◌, ◌^◌, ℕ, List, [], length, slice_index_or, refl, sym, ap, subst, arith}
 use Rattle.snap_prelude.specs.{Known}
 use Rattle.snap_service.specs.Prelude.{AreSeated, fronts_of, IsUncut, new_kit, new_session, pass_at}
+use Rattle.snap_desk.proofs.Names.{some_of}
+use Rattle.snap_crew.specs.Jobs.{AreRunnableOn}
 use Rattle.snap_crew.specs.Prelude.{AreWorkers, script_commands, IsTrue}
-use Rattle.snap_crew.proofs.{Beginning.first_uses, Beginning.left_new, Beginning.new_seated, Beginning.new_uncut}
-use Rattle.snap_crew.proofs.{Beginning.own_new, Beginning.some_of, Handing.named_fit, Handing.true_front}
+use Rattle.snap_crew.proofs.{Beginning.first_uses, Beginning.left_many, Beginning.left_new, Beginning.new_seated, Beginning.new_uncut}
+use Rattle.snap_crew.proofs.{Beginning.own_new, Handing.named_fit, Handing.true_front}
 use Rattle.snap_crew.proofs.{Working.numbered, scripts.run_scripts.Goals.In_ok-ran}
 use Rattle.snap_crew.proofs.scripts.run_scripts.Goals as goal
 
@@ -11,7 +13,15 @@ own_is : (g : _) (c : In_ok-ran g) → c.in-Some.own ≡ new_kit c.in_ok-service
 own_is g c = own_new c.in_ok-service.service.laid c.in_ok-service.opened.items c.pop.new.self.items c.in-Some.own (length c.args.task.now.scripts.now) (length c.args.task.now.scripts.now + 1) refl c.in_ok-service.ensures.kits c.in-Some.ensures.items
 
 pub run_jobs-requires-clause-kits : goal.run_jobs-requires-clause-kits
-run_jobs-requires-clause-kits g c κs within = left_new c.in_ok-service.service.laid c.in_ok-service.opened.items c.pop.new.self.items c.in-Some.own (length c.args.task.now.scripts.now) (length c.args.task.now.scripts.now + 1) refl c.in_ok-service.ensures.kits c.in-Some.ensures.items
+run_jobs-requires-clause-kits g c κs within =
+    let s = c.in_ok-service.ensures.service in let task = c.requires.task in let n = length c.args.task.now.scripts.now in
+    record {
+      of_service = s.tables;
+      a_kit_each = left_many c.in_ok-service.service.laid c.in_ok-service.opened.items c.pop.new.self.items c.in-Some.own n (n + 1) refl c.in_ok-service.ensures.kits c.in-Some.ensures.items;
+      new = left_new c.in_ok-service.service.laid c.in_ok-service.opened.items c.pop.new.self.items c.in-Some.own n (n + 1) refl c.in_ok-service.ensures.kits c.in-Some.ensures.items;
+      scripts_run = subst (λ (names : List (List ℕ)). AreRunnableOn names c.args.task.now.loads.now c.args.task.now.scripts.now) (sym s.names_are) task.scripts_run;
+      few = task.few;
+    }
 
 pub end_run-requires-clause-kit : goal.end_run-requires-clause-kit
 end_run-requires-clause-kit g c = subst (λ (k : List Known). AreSeated c.in_ok-service.service k) (sym (own_is g c)) (new_seated c.in_ok-service.service (length c.args.task.now.scripts.now))

@@ -4,4 +4,4 @@ use Rattle.snap_crew.proofs.worker.answer_all.Given as goal
 
 -- the commands so far were run
 abbrev pub invariant-loop-line : goal.invariant-loop-line
-invariant-loop-line g l = IsAtDesk l.loads l.who (script_commands l.script) l.line-index l.initial.session l.session l.initial.desk l.desk
+invariant-loop-line g l = IsAtDesk l.loads l.fn.seat.job.who (script_commands l.fn.seat.job.script.now) l.line-index l.fn.seat.job.session l.seat.job.session l.fn.seat.desk l.seat.desk

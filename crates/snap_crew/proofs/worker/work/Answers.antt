@@ -1,6 +1,7 @@
-use Rattle.snap_crew.proofs.Sitting.{keeps_end}
+use Rattle.std.proofs.Common.{[]}
+use Rattle.snap_crew.proofs.Sitting.{keeps_more}
 use Rattle.snap_crew.specs.Prelude.{script_commands}
 use Rattle.snap_crew.proofs.worker.work.Goals as goal
 
 pub returns-clause-keeps : goal.returns-clause-keeps
-returns-clause-keeps g c = keeps_end (script_commands c.args.script.now) c.args.desk.now c.answer_all.new.desk c.finish.new.self c.answer_all.ensures.keeps c.finish.ensures.same c.finish.ensures.pieces c.finish.ensures.none c.finish.ensures.counted
+returns-clause-keeps g c = keeps_more (script_commands c.args.seat.now.job.script.now) c.args.seat.now.desk c.answer_all.new.seat.desk c.finish.new.self [] (λ names all. tt) c.answer_all.ensures.keeps c.finish.ensures.goes_on c.finish.ensures.none

@@ -1,8 +1,4 @@
-use Rattle.std.proofs.Common.{◌≡◌, ◌∷◌, [], ℕ, List, Bool, subst, sym, ap, not}
-use Rattle.snap_io.specs.Causes.{Rose}
-use Rattle.snap_write.specs.Pieces.{FilePiece}
-use Rattle.snap_desk.specs.Collecting.{IsCollected, as_piece}
-use Rattle.snap_desk.specs.Puts.{is_named}
+use Rattle.snap_desk.specs.Collecting.{as_piece}
 use Rattle.snap_desk.proofs.Gathering.{collected_by, piece_is}
 use Rattle.snap_desk.proofs.collecting.write_piece.Goals as goal
 

@@ -19,13 +19,11 @@ run_scripts-requires-clause-task g c κs within =
     (subst (λ (xs : List (List Line)). IsTask c.args.plan.now.tables c.args.plan.now.rows c.args.plan.now.loads xs) (sym c.list.ensures) (is_task c.args.plan.now c.requires.runnable))
 
 pub run_scripts-requires-clause-files : goal.run_scripts-requires-clause-files
-run_scripts-requires-clause-files g c κs within =
-    subst (λ (xs : List (List Line)). IfSome c.reply_names.result (λ names. AreFilesApart names.now (map script_commands xs))) (sym c.list.ensures)
-    (files_apart c.args.plan.now c.requires.runnable c.requires.a_worker_each c.reply_names.result c.reply_names.ensures)
-
-pub run_scripts-requires-clause-blank : goal.run_scripts-requires-clause-blank
-run_scripts-requires-clause-blank g c κs within =
-    replies_blank c.args.plan.now.replies c.reply_names.result c.create_replies-made.result (g.S.Shelf.files c.args.shelf.now) (g.S.Shelf.files c.create_replies-made.new.shelf) c.reply_names.ensures c.create_replies-made.ensures.written
+run_scripts-requires-clause-files g c κs within = record {
+  apart = subst (λ (xs : List (List Line)). IfSome c.reply_names.result (λ names. AreFilesApart names.now (map script_commands xs))) (sym c.list.ensures)
+      (files_apart c.args.plan.now c.requires.runnable c.requires.a_worker_each c.reply_names.result c.reply_names.ensures);
+  blank = replies_blank c.args.plan.now.replies c.reply_names.result c.create_replies-made.result (g.S.Shelf.files c.args.shelf.now) (g.S.Shelf.files c.create_replies-made.new.shelf) c.reply_names.ensures c.create_replies-made.ensures.written;
+}
 
 pub report-requires-clause-few_commands : goal.report-requires-clause-few_commands
 report-requires-clause-few_commands g c =

@@ -1,7 +1,8 @@
-use Rattle.std.proofs.Common.{◌<◌, ◌++◌, ℕ, List, ap, sym, subst, ◌∙◌, arith, map}
+use Rattle.std.proofs.Common.{◌<◌, ◌++◌, ℕ, List, ap, refl, sym, subst, ◌∙◌, arith, map}
 use Rattle.std.specs.Prelude.{All}
 use Rattle.snap_outlet.specs.{Outlets.pieces_of, Outlets.TakerAt, Posts.PostAt, declared.view.Parcel.Parcel}
 use Rattle.snap_desk.specs.{Collecting.Collects, Collecting.rests_from, declared.collecting.Collector.Collector}
+use Rattle.snap_desk.proofs.Gathering.{goes_on_more}
 use Rattle.snap_crew.proofs.Left.{rests_same, settles}
 use Rattle.snap_crew.proofs.leaving.Room.settle.Goals as goal
 
@@ -22,3 +23,15 @@ returns-clause-settles g c =
       all = λ i p l. ap (λ (xs : List Parcel). pieces_of i (xs ++ h.parcels)) (sym (ap (λ (t : TakerAt). t.tally.taken) gathers)) ∙ h.all i p l;
       collects = record { names = k.names; files = k.files; later = k.later };
     }
+
+pub drain-requires : goal.drain-requires
+drain-requires g c = record {
+  outlet_is = ap (λ (t : TakerAt). t.outlet) c.gather_posts.ensures.gathered ∙ c.requires.can.outlet_is;
+  ready = c.requires.can.ready;
+}
+
+pub returns-clause-goes_on : goal.returns-clause-goes_on
+returns-clause-goes_on g c =
+    let old = c.args.collector.now in let drained = c.drain.new.self in let first = c.drain.ensures.goes_on in let drains = c.drain.ensures.drains in let came = drains.collects in
+    goes_on_more g.S.Shelf.files g.S.Shelf.read_faults old drained drained c.collect_rests.new.self c.args.shelf.now c.drain.new.shelf c.collect_rests.new.shelf came.names refl
+    (record { ready = first.ready; reads = first.reads; none = first.none }) c.collect_rests.ensures.goes_on

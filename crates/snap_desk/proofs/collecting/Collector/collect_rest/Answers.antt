@@ -1,8 +1,8 @@
-use Rattle.std.proofs.Common.{◌≡◌, ◌∷◌, ◌++◌, [], ℕ, List, ap, sym, subst, ◌∙◌, append_assoc, append-nil, length, arith}
+use Rattle.std.proofs.Common.{◌∷◌, ◌++◌, [], List, ap, refl, sym, subst, ◌∙◌, append_assoc}
 use Rattle.snap_outlet.specs.Posts.{parcels}
 use Rattle.snap_outlet.specs.declared.piece.Piece.{Piece}
 use Rattle.snap_desk.specs.Collecting.{Collects}
-use Rattle.snap_desk.proofs.Gathering.{no_more, rest_more}
+use Rattle.snap_desk.proofs.Gathering.{goes_on_more, no_more, rest_more}
 use Rattle.snap_desk.proofs.collecting.Collector.collect_rest.Goals as goal
 
 pub loop-piece-preserved : goal.loop-piece-preserved
@@ -15,9 +15,7 @@ loop-piece-preserved g c =
         append_assoc done (piece ∷ []) c.pop_front.new.self.items ∙ ap (λ (l : List Piece). done ++ l) (sym c.in-Some.ensures.items) ∙ first.1,
         rest_more c.args.self.now c.loop-piece.self c.collect.new.self done piece (g.S.Shelf.files c.args.shelf.now) (g.S.Shelf.files c.loop-piece.shelf) (g.S.Shelf.files c.collect.new.shelf) (g.S.Shelf.write_faults c.args.shelf.now) (g.S.Shelf.write_faults c.loop-piece.shelf) (g.S.Shelf.write_faults c.collect.new.shelf) first.2 after,
       );
-      ready = c.collect.ensures.ready;
-      reads = c.collect.ensures.reads ∙ v.reads;
-      none = λ no. let k = c.collect.ensures.none (came.names ∙ no) in let h = v.none no in (k.0 ∙ h.0, k.1 ∙ h.1);
+      goes_on = goes_on_more g.S.Shelf.files g.S.Shelf.read_faults c.args.self.now c.loop-piece.self c.loop-piece.self c.collect.new.self c.args.shelf.now c.loop-piece.shelf c.collect.new.shelf came.names refl v.goes_on c.collect.ensures.goes_on;
     }
 
 pub returns-clause-collects : goal.returns-clause-collects

@@ -1,11 +1,11 @@
-use Rattle.std.proofs.Common.{◌≡◌, ◌∷◌, ◌++◌, [], ℕ, List, ap, sym, subst, ◌∙◌, append_assoc, length, arith, map}
+use Rattle.std.proofs.Common.{◌∷◌, ◌++◌, [], List, ap, refl, sym, subst, ◌∙◌, append_assoc, length, arith, map}
 use Rattle.std.proofs.lemmas.List.{map-append}
 use Rattle.std.specs.Global.{Global}
 use Rattle.std.specs.Vec.Iter.{into_iter_items}
 use Rattle.std.specs.declared.collections.VecDeque.{VecDeque}
 use Rattle.snap_outlet.specs.declared.piece.Piece.{Piece}
 use Rattle.snap_desk.specs.Collecting.{Collects, rests_from}
-use Rattle.snap_desk.proofs.Gathering.{rests_more, rest_items}
+use Rattle.snap_desk.proofs.Gathering.{goes_on_more, rests_more, rest_items}
 use Rattle.snap_desk.proofs.collecting.Collector.collect_rests.Goals as goal
 
 pub loop-rest-preserved : goal.loop-rest-preserved
@@ -18,7 +18,5 @@ loop-rest-preserved g c =
       collects = subst (λ (l : List (List Piece)). Collects c.args.self.now c.collect_rest.new.self (rests_from 0 l) (g.S.Shelf.files c.args.shelf.now) (g.S.Shelf.files c.collect_rest.new.shelf) (g.S.Shelf.write_faults c.args.shelf.now) (g.S.Shelf.write_faults c.collect_rest.new.shelf))
           (sym (map-append rest_items c.loop-rest.yielded (rest ∷ [])))
           (rests_more c.args.self.now c.loop-rest.self c.collect_rest.new.self (map rest_items c.loop-rest.yielded) rest.items (g.S.Shelf.files c.args.shelf.now) (g.S.Shelf.files c.loop-rest.shelf) (g.S.Shelf.files c.collect_rest.new.shelf) (g.S.Shelf.write_faults c.args.shelf.now) (g.S.Shelf.write_faults c.loop-rest.shelf) (g.S.Shelf.write_faults c.collect_rest.new.shelf) came c.collect_rest.ensures.collects);
-      ready = c.collect_rest.ensures.ready;
-      reads = c.collect_rest.ensures.reads ∙ v.reads;
-      none = λ no. let k = c.collect_rest.ensures.none (came.names ∙ no) in let h = v.none no in (k.0 ∙ h.0, k.1 ∙ h.1);
+      goes_on = goes_on_more g.S.Shelf.files g.S.Shelf.read_faults c.args.self.now c.loop-rest.self c.loop-rest.self c.collect_rest.new.self c.args.shelf.now c.loop-rest.shelf c.collect_rest.new.shelf came.names refl v.goes_on c.collect_rest.ensures.goes_on;
     }

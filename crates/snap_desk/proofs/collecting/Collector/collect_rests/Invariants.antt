@@ -1,6 +1,6 @@
-use Rattle.std.proofs.Common.{◌≡◌, ◌++◌, None, length, map}
+use Rattle.std.proofs.Common.{◌≡◌, ◌++◌, length, map}
 use Rattle.std.specs.Vec.Iter.{into_iter_items, into_iter_len}
-use Rattle.snap_desk.specs.Collecting.{Collects, IsReadyToWrite, rests_from}
+use Rattle.snap_desk.specs.Collecting.{Collects, GoesOnWriting, rests_from}
 use Rattle.snap_desk.proofs.collecting.Collector.collect_rests.Given as goal
 
 -- what waited at the first posts is written, or nothing more is
@@ -10,7 +10,5 @@ invariant-loop-rest g l = record {
   length : into_iter_len l.rest-iterator ≡ length (into_iter_items l.rest-iterator);
   taker : l.self.taker ≡ l.fn.self.taker;
   collects : Collects l.fn.self l.self (rests_from 0 (map (λ r. r.items) l.yielded)) (g.S.Shelf.files l.fn.shelf) (g.S.Shelf.files l.shelf) (g.S.Shelf.write_faults l.fn.shelf) (g.S.Shelf.write_faults l.shelf);
-  ready : IsReadyToWrite l.self (g.S.Shelf.files l.shelf);
-  reads : g.S.Shelf.read_faults l.shelf ≡ g.S.Shelf.read_faults l.fn.shelf;
-  none : l.fn.self.names ≡ None → (l.shelf ≡ l.fn.shelf) × (l.self.written ≡ l.fn.self.written);
+  goes_on : GoesOnWriting g.S.Shelf.files g.S.Shelf.read_faults l.fn.self l.self l.fn.shelf l.shelf;
 }

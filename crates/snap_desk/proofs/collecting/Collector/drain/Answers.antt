@@ -1,6 +1,6 @@
-use Rattle.std.proofs.Common.{◌≡◌, refl, sym, ◌∙◌}
+use Rattle.std.proofs.Common.{refl, sym, ◌∙◌}
 use Rattle.snap_desk.specs.declared.collecting.Collector.{Collector}
-use Rattle.snap_desk.proofs.Gathering.{drains_more, drains_one}
+use Rattle.snap_desk.proofs.Gathering.{drains_more, drains_one, goes_on_more}
 use Rattle.snap_desk.proofs.collecting.Collector.drain.Goals as goal
 
 pub loop-preserved : goal.loop-preserved
@@ -12,9 +12,7 @@ loop-preserved g c =
       record {
         drains = drains_more old now c.collect.new.self (g.S.Shelf.files c.args.shelf.now) (g.S.Shelf.files c.loop.shelf) (g.S.Shelf.files c.collect.new.shelf) (g.S.Shelf.write_faults c.args.shelf.now) (g.S.Shelf.write_faults c.loop.shelf) (g.S.Shelf.write_faults c.collect.new.shelf) first
             (drains_one now mid c.collect.new.self c.in-Some-take.piece (g.S.Shelf.files c.loop.shelf) (g.S.Shelf.files c.collect.new.shelf) (g.S.Shelf.write_faults c.loop.shelf) (g.S.Shelf.write_faults c.collect.new.shelf)
-            c.in-Some-take.ensures.next (c.take.ensures.outlet ∙ sym (took.outlet ∙ c.requires.outlet)) refl refl c.collect.ensures.taker c.collect.ensures.collects);
-        ready = c.collect.ensures.ready;
-        reads = c.collect.ensures.reads ∙ v.reads;
-        none = λ no. let k = c.collect.ensures.none (came.names ∙ no) in let h = v.none no in (k.0 ∙ h.0, k.1 ∙ h.1);
+            c.in-Some-take.ensures.next (c.take.ensures.outlet ∙ sym (took.outlet ∙ c.requires.outlet_is)) refl refl c.collect.ensures.taker c.collect.ensures.collects);
+        goes_on = goes_on_more g.S.Shelf.files g.S.Shelf.read_faults c.args.self.now c.loop.self mid c.collect.new.self c.args.shelf.now c.loop.shelf c.collect.new.shelf came.names refl v.goes_on c.collect.ensures.goes_on;
       },
     )

@@ -1,5 +1,5 @@
-use Rattle.std.proofs.Common.{◌≡◌, ◌∙◌}
-use Rattle.snap_desk.proofs.Gathering.{drains_more}
+use Rattle.std.proofs.Common.{refl}
+use Rattle.snap_desk.proofs.Gathering.{drains_more, goes_on_more}
 use Rattle.snap_desk.proofs.collecting.Collector.take_beside.Goals as goal
 
 pub returns-then-ended-clause-drains : goal.returns-then-ended-clause-drains
@@ -14,8 +14,6 @@ loop-preserved g c =
       tt,
       record {
         drains = drains_more c.args.self.now c.loop.self c.drain.new.self (g.S.Shelf.files c.args.shelf.now) (g.S.Shelf.files c.loop.shelf) (g.S.Shelf.files c.drain.new.shelf) (g.S.Shelf.write_faults c.args.shelf.now) (g.S.Shelf.write_faults c.loop.shelf) (g.S.Shelf.write_faults c.drain.new.shelf) first c.drain.ensures.drains;
-        ready = c.drain.ensures.ready;
-        reads = c.drain.ensures.reads ∙ v.reads;
-        none = λ no. let k = c.drain.ensures.none (came.names ∙ no) in let h = v.none no in (k.0 ∙ h.0, k.1 ∙ h.1);
+        goes_on = goes_on_more g.S.Shelf.files g.S.Shelf.read_faults c.args.self.now c.loop.self c.loop.self c.drain.new.self c.args.shelf.now c.loop.shelf c.drain.new.shelf came.names refl v.goes_on c.drain.ensures.goes_on;
       },
     )

@@ -1,12 +1,9 @@
-use Rattle.std.proofs.Common.{◌≡◌, None}
-use Rattle.snap_desk.specs.Collecting.{Drains, IsReadyToWrite}
+use Rattle.snap_desk.specs.Collecting.{Drains, GoesOnWriting}
 use Rattle.snap_desk.proofs.collecting.Collector.take_beside.Given as goal
 
 -- what was taken so far is written, or nothing more is
 abbrev pub invariant-loop : goal.invariant-loop
 invariant-loop g l = (goal.iterator-loop g).can_next l.iterator' × (goal.iterator-loop g).is_finite l.iterator' × record {
   drains : Drains l.fn.self l.self (g.S.Shelf.files l.fn.shelf) (g.S.Shelf.files l.shelf) (g.S.Shelf.write_faults l.fn.shelf) (g.S.Shelf.write_faults l.shelf);
-  ready : IsReadyToWrite l.self (g.S.Shelf.files l.shelf);
-  reads : g.S.Shelf.read_faults l.shelf ≡ g.S.Shelf.read_faults l.fn.shelf;
-  none : l.fn.self.names ≡ None → (l.shelf ≡ l.fn.shelf) × (l.self.written ≡ l.fn.self.written);
+  goes_on : GoesOnWriting g.S.Shelf.files g.S.Shelf.read_faults l.fn.self l.self l.fn.shelf l.shelf;
 }

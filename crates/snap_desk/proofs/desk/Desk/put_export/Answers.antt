@@ -1,4 +1,4 @@
-use Rattle.std.proofs.Common.{◌≡◌, List, ap, ◌∙◌}
+use Rattle.std.proofs.Common.{◌∙◌}
 use Rattle.snap_desk.proofs.Putting.{export_in, export_put, one_for}
 use Rattle.snap_desk.proofs.desk.Desk.put_export.Goals as goal
 
