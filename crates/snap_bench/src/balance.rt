@@ -1,64 +1,29 @@
 //! What balance costs and brings: how long puts take, and how deep the table stands after them.
-ghost use Rattle.std.specs.Prelude.{◌≤◌};
-
 use crate::fault::Fault;
 use crate::keys::Order;
 use crate::watch::nanos_each;
-use crate::workers::{OfTable, fill, open_for_one};
+use crate::workers::{OfTable, Worker, fill};
 use snap_view::Settled;
-use std::alloc::Global;
+use std::io::Print;
 use std::sync::Wait;
 use std::time::{Clock, Instant};
 
-/// What puts made of a table.
-#[derive(Clone, Copy)]
-pub struct Balance {
-    /// Nanoseconds of one put.
-    pub put: u64,
-    /// Rows that were handed out.
-    pub drawn: u32,
-    /// How a clone behind the puts stands.
-    pub shape: Shape,
-}
-
-/// How the tree of a clone stands.
-#[derive(Clone, Copy)]
-pub struct Shape {
-    /// Rows on the longest way down.
-    pub depth: u32,
-    /// Whether it is settled, and else why not.
-    pub settled: Settled,
-}
-
-/// Puts so many different keys in this order into a table of its own.
-pub fn balance_of<R: Wait + Clock>(
-    rt: &R,
-    alloc: Global,
-    size: u32,
-    order: Order,
-) -> Result<Balance, Fault>
-    requires { size ≤ 1_000_000 }
-{
-    let (table, pass) = open_for_one(alloc, size + 48)?;
-    let mut worker = OfTable::new(&table, pass);
-    balance_by(rt, &mut worker, size, order)
-}
-
-fn balance_by<R: Wait + Clock>(
+/// Puts so many different keys in this order, and prints what that took and left.
+pub fn tell_puts<R: Print + Wait + Clock>(
     rt: &R,
     worker: &mut OfTable<'_>,
     size: u32,
     order: Order,
-) -> Result<Balance, Fault> {
-    let put = time_puts(rt, worker, size, order)?;
-    let drawn = worker.drawn_rows();
-    let shape = shape_of(rt, worker)?;
-    Ok(Balance { put, drawn, shape })
+) -> Result<(), Fault> {
+    let put = time_fill(rt, worker, size, order)?;
+    print!(rt; "{size}, {}, ", order.name())?;
+    tell_shape(rt, worker, put)
 }
 
-fn time_puts<R: Wait + Clock>(
+// Nanoseconds of each put.
+fn time_fill<R: Wait + Clock, W: Worker<R>>(
     rt: &R,
-    worker: &mut OfTable<'_>,
+    worker: &mut W,
     size: u32,
     order: Order,
 ) -> Result<u64, Fault> {
@@ -67,10 +32,20 @@ fn time_puts<R: Wait + Clock>(
     nanos_each(rt, start, size)
 }
 
-fn shape_of<R: Wait>(rt: &R, worker: &mut OfTable<'_>) -> Result<Shape, Fault> {
+fn tell_shape<R: Print + Wait>(rt: &R, worker: &mut OfTable<'_>, put: u64) -> Result<(), Fault> {
+    let drawn = worker.drawn_rows();
+    let (depth, settled) = shape_of(rt, worker)?;
+    println!(rt; "{put}, {drawn}, {depth}, {settled}")?;
+    Ok(())
+}
+
+// How deep the tree of a clone stands, and whether it is settled.
+fn shape_of<R: Wait>(rt: &R, worker: &mut OfTable<'_>) -> Result<(u32, &'static str), Fault> {
     let mut view = worker.clone_view(rt)?;
-    let depth = view.depth();
-    let settled = view.settled();
-    view.release();
-    Ok(Shape { depth, settled })
+    let settled = match view.settled() {
+        Settled::Yes => "yes",
+        Settled::RowsOut { .. } => "no, rows were out",
+        Settled::StampOut { .. } => "no, a stamp was out",
+    };
+    Ok((view.depth(), settled))
 }

@@ -1,19 +1,18 @@
 //! `snap_bench cell KIND NUMBERS..`: one figure of the comparison with other maps, which bench/peers/run asks for.
-ghost use Rattle.std.specs.Prelude.{◌≤◌};
+ghost use Rattle.std.specs.Prelude.{◌≤◌, IfOk};
 
-use crate::draws::{Draws, key_of, scattered};
+use crate::clones::clone_again;
 use crate::fault::Fault;
 use crate::keys::Order;
-use crate::mixes::{MOST_ROWS, Mix, tell_mix};
+use crate::mixes::{Mix, tell_mix};
+use crate::scans::{Scan, Told, tell_scan};
 use crate::watch::{Watch, resident_bytes};
-use crate::workers::{OfTable, Worker, fill, one_and_others, open_for_one, open_table, pairs_of};
+use crate::workers::{OfTable, Worker, fill, on_table};
 use std::alloc::Global;
 use std::env::Args;
 use std::io::Print;
 use std::rt::Files;
 use std::sync::Wait;
-use std::sync::atomic::{AtomicU64, Ordering};
-use std::thread;
 use std::thread::Threads;
 use std::time::{Clock, CpuClock};
 
@@ -26,6 +25,9 @@ struct Asked {
     cell: String,
 }
 
+/// The most pairs of a table that has more rows than pairs.
+const MOST_PAIRS: u32 = 1_000_000;
+
 /// Times the cell that the words name, and prints `SnapTable CELL CALLS NANOSECONDS PROCESSOR-NANOSECONDS`.
 pub fn tell_cell<R: Files + AllocGlobal + Print + Threads + Wait + Clock + CpuClock + Sync>(
     rt: &R,
@@ -33,85 +35,28 @@ pub fn tell_cell<R: Files + AllocGlobal + Print + Threads + Wait + Clock + CpuCl
     words: Args,
 ) -> Result<(), Fault> {
     let asked = read_words(alloc, words)?;
-    let cell = cell_of(asked.kind.as_str(), asked.numbers.as_slice())?;
-    time_cell(rt, alloc, cell, asked.cell.as_str())
+    time_cell(
+        rt,
+        alloc,
+        asked.kind.as_str(),
+        asked.numbers.as_slice(),
+        asked.cell.as_str(),
+    )
 }
 
-/// What is timed.
-#[derive(Clone, Copy)]
-enum Cell {
-    Mix(Mix),
-    /// Puts of so many keys in rising order.
-    Rising(u32),
-    Scans(Scan),
-    Clones(Clones),
-    /// The memory of a table of so many pairs.
-    Memory(u32),
-}
-
-fn cell_of(kind: &str, numbers: &[u32]) -> Result<Cell, Fault> {
-    match kind {
-        "mix" => Ok(Cell::Mix(mix_of(numbers)?)),
-        "rising" => Ok(Cell::Rising(only(numbers)?)),
-        "scan" => Ok(Cell::Scans(scan_of(numbers)?)),
-        "copy" => Ok(Cell::Clones(clones_of(numbers)?)),
-        "memory" => Ok(Cell::Memory(only(numbers)?)),
-        _ => Err(Fault::Usage),
-    }
-}
-
-fn only(numbers: &[u32]) -> Result<u32, Fault> {
-    match numbers {
-        &[number] => Ok(number),
-        _ => Err(Fault::Usage),
-    }
-}
-
-fn mix_of(numbers: &[u32]) -> Result<Mix, Fault> {
-    match numbers {
-        &[gets, keys, threads, warm, millis, most] => Ok(Mix {
-            gets,
-            keys,
-            threads,
-            warm,
-            millis,
-            most,
-        }),
-        _ => Err(Fault::Usage),
-    }
-}
-
-fn scan_of(numbers: &[u32]) -> Result<Scan, Fault> {
-    match numbers {
-        &[pairs, writers, millis] => Ok(Scan {
-            pairs,
-            writers,
-            millis,
-        }),
-        _ => Err(Fault::Usage),
-    }
-}
-
-fn clones_of(numbers: &[u32]) -> Result<Clones, Fault> {
-    match numbers {
-        &[pairs, millis] => Ok(Clones { pairs, millis }),
-        _ => Err(Fault::Usage),
-    }
-}
-
-// What is larger than a table can be, or wants more threads, is refused.
 fn time_cell<R: Files + AllocGlobal + Print + Threads + Wait + Clock + CpuClock + Sync>(
     rt: &R,
     alloc: Global,
-    cell: Cell,
-    name: &str,
+    kind: &str,
+    numbers: &[u32],
+    cell: &str,
 ) -> Result<(), Fault> {
-    match cell {
-        Cell::Mix(mix) if mix.threads <= 16 => tell_mix(rt, alloc, mix, name),
-        Cell::Rising(keys) if keys <= 1_000_000 => tell_rising(rt, alloc, keys, name),
-        Cell::Scans(scan) if scan.writers <= 16 => tell_scans(rt, alloc, scan, name),
-        Cell::Clones(clones) if clones.pairs <= 1_000_000 => tell_clones(rt, alloc, clones, name),
-        Cell::Memory(pairs) if pairs <= 1_000_000 => tell_memory(rt, alloc, pairs, name),
+    match kind {
+        "mix" => time_mix(rt, alloc, numbers, cell),
+        "rising" => time_rising(rt, alloc, numbers, cell),
+        "scan" => time_scan(rt, alloc, numbers, cell),
+        "copy" => time_clones(rt, alloc, numbers, cell),
+        "memory" => tell_memory(rt, alloc, numbers, cell),
         _ => Err(Fault::Usage),
     }
 }
@@ -146,101 +91,118 @@ impl Asked {
     }
 }
 
-// Puts of keys in rising order.
-fn tell_rising<R: Wait + Clock + CpuClock + Print>(
+// A mix of more threads is refused, as is below what is larger than a table can be.
+fn time_mix<R: Threads + Wait + Clock + CpuClock + Print + Sync>(
     rt: &R,
     alloc: Global,
-    keys: u32,
+    numbers: &[u32],
     cell: &str,
-) -> Result<(), Fault>
-    requires { keys ≤ 1_000_000 }
-{
-    let (table, pass) = open_for_one(alloc, keys + 48)?;
-    let mut worker = OfTable::new(&table, pass);
-    time_rising(rt, &mut worker, keys, cell)
+) -> Result<(), Fault> {
+    match numbers {
+        &[gets, keys, threads, warm, millis, most] if threads <= 16 => {
+            let mix = Mix {
+                gets,
+                keys,
+                threads,
+                warm,
+                millis,
+                most,
+            };
+            tell_mix(rt, alloc, &mix, cell)
+        }
+        _ => Err(Fault::Usage),
+    }
 }
 
+fn time_scan<R: Threads + Wait + Clock + CpuClock + Print + Sync>(
+    rt: &R,
+    alloc: Global,
+    numbers: &[u32],
+    name: &str,
+) -> Result<(), Fault> {
+    match numbers {
+        &[pairs, writers, millis] if writers <= 16 => {
+            let told = Told::Cell { millis, name };
+            let scan = Scan {
+                pairs,
+                writers,
+                told,
+            };
+            tell_scan(rt, alloc, scan)
+        }
+        _ => Err(Fault::Usage),
+    }
+}
+
+// Puts of so many keys in rising order.
 fn time_rising<R: Wait + Clock + CpuClock + Print>(
     rt: &R,
-    worker: &mut OfTable<'_>,
+    alloc: Global,
+    numbers: &[u32],
+    cell: &str,
+) -> Result<(), Fault> {
+    match numbers {
+        &[keys] if keys <= MOST_PAIRS => {
+            on_table(
+                alloc,
+                keys + 48,
+                0,
+                |worker, _| fill_by(rt, worker, keys, cell),
+            )
+        }
+        _ => Err(Fault::Usage),
+    }
+}
+
+fn fill_by<R: Wait + Clock + CpuClock + Print, W: Worker<R>>(
+    rt: &R,
+    worker: &mut W,
     keys: u32,
     cell: &str,
 ) -> Result<(), Fault> {
     let watch = Watch::start(rt)?;
     fill(rt, worker, keys, Order::Rising)?;
-    watch.tell(rt, cell, keys as u64)
+    watch.tell(rt, "", cell, keys as u64)
 }
 
-// Puts so many different keys, in an order as if by lot.
-fn scatter<R: Wait>(rt: &R, worker: &mut OfTable<'_>, pairs: u32) -> Result<(), Fault> {
-    for number in 0..pairs as u64 {
-        worker.put(rt, scattered(number), number)?;
-    }
-    Ok(())
-}
-
-// How much larger the process is with a table of so many pairs, and of as many rows.
-fn tell_memory<R: Files + AllocGlobal + Wait + Print>(
-    rt: &R,
-    alloc: Global,
-    pairs: u32,
-    cell: &str,
-) -> Result<(), Fault>
-    requires { pairs ≤ 1_000_000 }
-{
-    let before = resident_bytes(rt)?;
-    let (table, pass) = open_for_one(alloc, pairs + 48)?;
-    let mut worker = OfTable::new(&table, pass);
-    tell_bytes(rt, &mut worker, before, pairs, cell)
-}
-
-fn tell_bytes<R: Files + AllocGlobal + Wait + Print>(
-    rt: &R,
-    worker: &mut OfTable<'_>,
-    before: u64,
-    pairs: u32,
-    cell: &str,
-) -> Result<(), Fault> {
-    scatter(rt, worker, pairs)?;
-    let bytes = resident_bytes(rt)?.saturating_sub(before);
-    println!(rt; "SnapTable {cell} {pairs} {bytes} 0")?;
-    Ok(())
-}
-
-/// Clones of a table of so many pairs, which are made and given up one after another for so many milliseconds.
-#[derive(Clone, Copy)]
-struct Clones {
-    pairs: u32,
-    millis: u32,
-}
-
-fn tell_clones<R: Wait + Clock + CpuClock + Print>(
-    rt: &R,
-    alloc: Global,
-    clones: Clones,
-    cell: &str,
-) -> Result<(), Fault>
-    requires { clones.pairs ≤ 1_000_000 }
-{
-    let (table, pass) = open_for_one(alloc, clones.pairs + 48)?;
-    let mut worker = OfTable::new(&table, pass);
-    time_clones(rt, &mut worker, clones, cell)
-}
-
+// Clones of a table of so many pairs, which are made and given up one after another for so many milliseconds.
 fn time_clones<R: Wait + Clock + CpuClock + Print>(
     rt: &R,
-    worker: &mut OfTable<'_>,
-    clones: Clones,
+    alloc: Global,
+    numbers: &[u32],
     cell: &str,
 ) -> Result<(), Fault> {
-    scatter(rt, worker, clones.pairs)?;
-    let watch = Watch::start(rt)?;
-    let made = clone_again(rt, worker, clones.millis, &watch)?;
-    watch.tell(rt, cell, made)
+    match numbers {
+        &[pairs, millis] if pairs <= MOST_PAIRS => {
+            on_table(
+                alloc,
+                pairs + 48,
+                0,
+                |worker, _| clone_by(rt, worker, pairs, millis, cell),
+            )
+        }
+        _ => Err(Fault::Usage),
+    }
 }
 
+fn clone_by<R: Wait + Clock + CpuClock + Print>(
+    rt: &R,
+    worker: &mut OfTable<'_>,
+    pairs: u32,
+    millis: u32,
+    cell: &str,
+) -> Result<(), Fault> {
+    fill(rt, worker, pairs, Order::Scattered)?;
+    let watch = Watch::start(rt)?;
+    let made = clone_until(rt, worker, millis, &watch)?;
+    watch.tell(rt, "", cell, made)
+}
+
+/// How many clones stand between two looks at the clock.
+const CLONES: u32 = 64;
+
 // How many clones were made.
-fn clone_again<R: Wait + Clock>(
+fn clone_until<R: Wait + Clock>(
     rt: &R,
     worker: &mut OfTable<'_>,
     millis: u32,
@@ -248,7 +210,7 @@ fn clone_again<R: Wait + Clock>(
 ) -> Result<u64, Fault> {
     let mut made = 0u64;
     for _ in 0..u32::MAX {
-        clone_batch(rt, worker)?;
+        clone_again(rt, worker, CLONES)?;
         made = made.saturating_add(CLONES as u64);
         if watch.is_past(rt, millis)? {
             break;
@@ -257,164 +219,45 @@ fn clone_again<R: Wait + Clock>(
     Ok(made)
 }
 
-/// How many clones stand between two looks at the clock.
-const CLONES: u32 = 64;
-
-fn clone_batch<R: Wait>(rt: &R, worker: &mut OfTable<'_>) -> Result<(), Fault> {
-    for _ in 0..CLONES {
-        worker.clone_view(rt)?.release();
-    }
-    Ok(())
-}
-
-/// Scans of a table of so many pairs, beside so many writers, for so many milliseconds.
-#[derive(Clone, Copy)]
-struct Scan {
-    pairs: u32,
-    writers: u32,
-    millis: u32,
-}
-
-/// What the reader of a scan shares with the threads that write beside it.
-#[derive(Drop)]
-struct Beside {
-    ended: AtomicU64,
-    writes: AtomicU64,
-    watch: Watch,
-}
-
-// All pairs of a clone in order, of one clone after another, while others put at keys that are there.
-fn tell_scans<R: Threads + Wait + Clock + CpuClock + Print + Sync>(
+// How much larger the process is with a table of so many pairs, and of as many rows.
+fn tell_memory<R: Files + AllocGlobal + Wait + Print>(
     rt: &R,
     alloc: Global,
-    scan: Scan,
-    cell: &str,
-) -> Result<(), Fault>
-    requires { scan.writers ≤ 16 }
-{
-    let (table, passes) = open_table(alloc, MOST_ROWS, scan.writers + 1)?;
-    let (mut reader, mut workers) = one_and_others(alloc, &table, passes)?;
-    let beside = time_scans(rt, &mut reader, &mut workers, scan, cell)?;
-    beside.tell_writes(rt, alloc, cell)
-}
-
-impl Beside {
-    fn start<R: Clock + CpuClock>(rt: &R) -> Result<Beside, Fault> {
-        Ok(Beside {
-            ended: AtomicU64::new(0),
-            writes: AtomicU64::new(0),
-            watch: Watch::start(rt)?,
-        })
-    }
-
-    fn tell_writes<R: Clock + CpuClock + Print>(
-        &self,
-        rt: &R,
-        alloc: Global,
-        cell: &str,
-    ) -> Result<(), Fault> {
-        let mut label = String::from_str(alloc, "beside-")?;
-        label.push_str(cell)?;
-        let writes = self.writes.load(Ordering::SeqCst);
-        self.watch.tell(rt, label.as_str(), writes)
-    }
-}
-
-fn time_scans<R: Threads + Wait + Clock + CpuClock + Print + Sync>(
-    rt: &R,
-    reader: &mut OfTable<'_>,
-    writers: &mut Vec<OfTable<'_>>,
-    scan: Scan,
-    cell: &str,
-) -> Result<Beside, Fault> {
-    scatter(rt, reader, scan.pairs)?;
-    let beside = Beside::start(rt)?;
-    scan_beside(rt, reader, writers, scan, &beside, cell)?;
-    Ok(beside)
-}
-
-// The reader scans in this thread, and each of the others writes in one of its own.
-fn scan_beside<R: Threads + Wait + Clock + CpuClock + Print + Sync>(
-    rt: &R,
-    reader: &mut OfTable<'_>,
-    writers: &mut Vec<OfTable<'_>>,
-    scan: Scan,
-    beside: &Beside,
+    numbers: &[u32],
     cell: &str,
 ) -> Result<(), Fault> {
-    thread::scope(thread::scope_env(), rt, |scope| -> Result<(), Fault> {
-        for thread in 0..scan.writers {
-            let Some(worker) = writers.pop() else {
-                return Err(Fault::Out);
-            };
-            let write = move || write_beside(rt, worker, thread, scan.pairs, beside);
-            if scope.spawn(write).is_err() {
-                return Err(Fault::Out);
-            }
+    let before = resident_bytes(rt)?;
+    match numbers {
+        &[pairs] if pairs <= MOST_PAIRS => {
+            on_table(
+                alloc,
+                pairs + 48,
+                0,
+                |worker, _| tell_bytes(rt, worker, pairs, before, cell),
+            )
         }
-        read_beside(rt, reader, scan, beside, cell)
-    })
-}
-
-// What the reader does. The writers end behind it.
-fn read_beside<R: Wait + Clock + CpuClock + Print>(
-    rt: &R,
-    reader: &mut OfTable<'_>,
-    scan: Scan,
-    beside: &Beside,
-    cell: &str,
-) -> Result<(), Fault> {
-    let met = scan_again(rt, reader, scan, &beside.watch);
-    beside.ended.store(1, Ordering::SeqCst);
-    beside.watch.tell(rt, cell, met?)
-}
-
-// How many pairs were met. It ends early where the writers may use up the rows behind one clone more: each row of a clone
-// is copied once at most.
-fn scan_again<R: Wait + Clock>(
-    rt: &R,
-    reader: &mut OfTable<'_>,
-    scan: Scan,
-    watch: &Watch,
-) -> Result<u64, Fault> {
-    let mut met = 0u64;
-    for _ in 0..u32::MAX {
-        let seen = scan_once(rt, reader)?;
-        if seen != scan.pairs as u64 {
-            return Err(Fault::Lost);
-        }
-        met = met.saturating_add(seen);
-        let drawn = reader.drawn_rows().saturating_add(scan.pairs);
-        if watch.is_past(rt, scan.millis)? || scan.writers > 0 && drawn >= MOST_ROWS {
-            break;
-        }
+        _ => Err(Fault::Usage),
     }
-    Ok(met)
 }
 
-fn scan_once<R: Wait>(rt: &R, reader: &mut OfTable<'_>) -> Result<u64, Fault> {
-    let mut view = reader.clone_view(rt)?;
-    let pairs = pairs_of(&mut view);
-    view.release();
-    Ok(pairs)
-}
-
-// Puts at keys that are there until the reader has ended.
-fn write_beside<R: Wait>(
+fn tell_bytes<R: Files + AllocGlobal + Wait + Print>(
     rt: &R,
-    mut worker: OfTable<'_>,
-    thread: u32,
+    worker: &mut OfTable<'_>,
     pairs: u32,
-    beside: &Beside,
-) {
-    let mut draws = Draws::new(1, thread);
-    let mut writes = 0u64;
-    for turn in 0..u32::MAX {
-        let key = scattered(key_of(draws.draw(), pairs));
-        if beside.ended.load(Ordering::SeqCst) > 0 || worker.put(rt, key, turn as u64).is_err() {
-            break;
-        }
-        writes = writes.saturating_add(1);
-    }
-    beside.writes.fetch_add(writes, Ordering::SeqCst);
+    before: u64,
+    cell: &str,
+) -> Result<(), Fault> {
+    fill(rt, worker, pairs, Order::Scattered)?;
+    tell_grown(rt, pairs, before, cell)
+}
+
+fn tell_grown<R: Files + AllocGlobal + Print>(
+    rt: &R,
+    pairs: u32,
+    before: u64,
+    cell: &str,
+) -> Result<(), Fault> {
+    let bytes = resident_bytes(rt)?.saturating_sub(before);
+    println!(rt; "SnapTable {cell} {pairs} {bytes} 0")?;
+    Ok(())
 }

@@ -1,4 +1,5 @@
-//! The numbers of the comparison with other maps: the same ones for each map, whatever language it is written in.
+//! The numbers of a round. Those of the comparison with other maps are the same ones for each map, whatever language it is
+//! written in.
 
 /// A bijection of 64 bits: different numbers have different keys, in an order as if by lot.
 pub fn scattered(number: u64) -> u64 {
@@ -14,7 +15,7 @@ pub struct Draws {
 }
 
 impl Draws {
-    pub fn new(phase: u64, thread: u32) -> Draws {
+    pub fn new(phase: u64, thread: usize) -> Draws {
         let place = phase
             .wrapping_mul(64)
             .wrapping_add(thread as u64)

@@ -1,30 +1,5 @@
-//! The keys of a round.
-
-/// How many different keys there are.
-pub const KEYS: u64 = 10_000;
-
-/// Keys below `KEYS`, each as likely as any other, the same for the same seed.
-#[derive(Drop)]
-pub struct Keys {
-    state: u64,
-}
-
-impl Keys {
-    pub fn new(seed: u64) -> Keys {
-        Keys {
-            state: seed.wrapping_mul(0x9e37_79b9_7f4a_7c15),
-        }
-    }
-
-    /// The next key: the upper half of a linear congruential sequence.
-    pub fn draw(&mut self) -> u64 {
-        self.state = self
-            .state
-            .wrapping_mul(6_364_136_223_846_793_005)
-            .wrapping_add(1_442_695_040_888_963_407);
-        (self.state >> 33) % KEYS
-    }
-}
+//! Keys, and in which order they follow one another.
+use crate::draws::scattered;
 
 /// The key of a number: different numbers have different keys, in an order as if by lot.
 pub fn spread(number: u32) -> u64 {
@@ -44,6 +19,8 @@ pub enum Order {
     AsIfByLot,
     /// In steps of the golden ratio, after which an AVL tree stands as deep as one can.
     Golden,
+    /// As if by lot, with the keys of the comparison with other maps.
+    Scattered,
 }
 
 impl Order {
@@ -52,6 +29,7 @@ impl Order {
             Order::Rising => "rising",
             Order::AsIfByLot => "as if by lot",
             Order::Golden => "golden",
+            Order::Scattered => "scattered",
         }
     }
 
@@ -61,6 +39,7 @@ impl Order {
             Order::Rising => place as u64,
             Order::AsIfByLot => spread(place),
             Order::Golden => golden(place),
+            Order::Scattered => scattered(place as u64),
         }
     }
 }

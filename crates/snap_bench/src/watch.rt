@@ -1,4 +1,4 @@
-//! What a cell of the comparison with other maps took.
+//! What calls took, and lines of figures.
 use crate::fault::Fault;
 use std::io::Print;
 use std::rt::Files;
@@ -24,16 +24,18 @@ impl Watch {
         Ok(self.wall.elapsed(rt)?.as_millis() >= millis as u128)
     }
 
-    /// Prints the cell, how many calls it made, and the nanoseconds that passed and that processors worked.
+    /// Prints what was done and in which cell, how many calls that were, and the nanoseconds that passed and that
+    /// processors worked.
     pub fn tell<R: Clock + CpuClock + Print>(
         &self,
         rt: &R,
+        what: &str,
         cell: &str,
         calls: u64,
     ) -> Result<(), Fault> {
         let passed = self.wall.elapsed(rt)?.as_nanos();
         let worked = self.worked(rt)?;
-        println!(rt; "SnapTable {cell} {calls} {passed} {worked}")?;
+        println!(rt; "SnapTable {what}{cell} {calls} {passed} {worked}")?;
         Ok(())
     }
 
@@ -44,10 +46,28 @@ impl Watch {
     }
 }
 
+/// Prints a line of figures.
+pub fn tell_figures<R: Print>(rt: &R, figures: &[u64]) -> Result<(), Fault> {
+    let mut mark = "";
+    for figure in figures {
+        print!(rt; "{mark}{figure}")?;
+        mark = ", ";
+    }
+    println!(rt; "")?;
+    Ok(())
+}
+
 /// The nanoseconds since then of each of so many calls.
 pub fn nanos_each<R: Clock>(rt: &R, start: Instant, calls: u32) -> Result<u64, Fault> {
     let nanos = start.elapsed(rt)?.as_nanos() / calls.max(1) as u128;
     Ok(u64::try_from(nanos).unwrap_or(u64::MAX))
+}
+
+/// How many a second so many since then are.
+pub fn per_second<R: Clock>(rt: &R, start: Instant, calls: u64) -> Result<u64, Fault> {
+    let nanos = start.elapsed(rt)?.as_nanos();
+    let rate = calls as u128 * 1_000_000_000 / nanos.max(1);
+    Ok(u64::try_from(rate).unwrap_or(u64::MAX))
 }
 
 /// How many bytes of the process lie in memory.

@@ -60,8 +60,42 @@ impl<'t> OfTable<'t> {
     }
 }
 
-/// A table of so many rows, and its passes, all at rest.
-pub fn open_table(alloc: Global, rows: u32, passes: u32) -> Result<(SnapTable, Vec<Pass>), Fault>
+/// The largest table.
+pub const MOST_ROWS: u32 = 1_048_576;
+
+/// Opens a table of so many rows for one worker and so many others, and lends them to the job.
+pub fn on_table<F: for<'t> FnOnce(&mut OfTable<'t>, &mut [OfTable<'t>]) -> Result<(), Fault>>(
+    alloc: Global,
+    rows: u32,
+    others: u32,
+    job: F,
+) -> Result<(), Fault>
+    requires rows { (0 < rows) × (rows ≤ 1048576) }
+    requires others { others < 64 }
+    requires job { F.IsAlwaysCallable job }
+{
+    let (table, passes) = open_table(alloc, rows, others + 1)?;
+    lend(alloc, &table, passes, job)
+}
+
+fn lend<F: for<'t> FnOnce(&mut OfTable<'t>, &mut [OfTable<'t>]) -> Result<(), Fault>>(
+    alloc: Global,
+    table: &SnapTable,
+    passes: Vec<Pass>,
+    job: F,
+) -> Result<(), Fault>
+    requires passes { All (IsAtRest table.now) passes.items }
+    requires job { F.IsAlwaysCallable job }
+{
+    let mut workers = workers_of(alloc, table, passes)?;
+    let Some(mut first) = workers.pop() else {
+        return Err(Fault::Out);
+    };
+    job(&mut first, workers.as_mut_slice())
+}
+
+// A table of so many rows, and its passes, all at rest.
+fn open_table(alloc: Global, rows: u32, passes: u32) -> Result<(SnapTable, Vec<Pass>), Fault>
     requires rows { (0 < rows) × (rows ≤ 1048576) }
     requires passes { (0 < passes) × (passes ≤ 64) }
     ensures { IfOk result (λ t. All (IsAtRest t.0) t.1.items) }
@@ -69,20 +103,8 @@ pub fn open_table(alloc: Global, rows: u32, passes: u32) -> Result<(SnapTable, V
     Ok(SnapTable::open(alloc, rows, passes)?)
 }
 
-/// A table of so many rows, and its one pass, at rest.
-pub fn open_for_one(alloc: Global, rows: u32) -> Result<(SnapTable, Pass), Fault>
-    requires { (0 < rows) × (rows ≤ 1048576) }
-    ensures { IfOk result (λ t. IsAtRest t.0 t.1) }
-{
-    let (table, mut passes) = open_table(alloc, rows, 1)?;
-    let Some(pass) = passes.pop() else {
-        return Err(Fault::Out);
-    };
-    Ok((table, pass))
-}
-
-/// A worker for each of the passes.
-pub fn workers_of<'t>(
+// A worker for each of the passes.
+fn workers_of<'t>(
     alloc: Global,
     table: &'t SnapTable,
     passes: Vec<Pass>,
@@ -96,32 +118,6 @@ pub fn workers_of<'t>(
         }
     }
     Ok(workers)
-}
-
-/// A worker for the last of the passes, and one for each of the others.
-pub fn one_and_others<'t>(
-    alloc: Global,
-    table: &'t SnapTable,
-    passes: Vec<Pass>,
-) -> Result<(OfTable<'t>, Vec<OfTable<'t>>), Fault>
-    requires { All (IsAtRest table.now) passes.items }
-{
-    let mut workers = workers_of(alloc, table, passes)?;
-    match workers.pop() {
-        Some(one) => Ok((one, workers)),
-        None => Err(Fault::Out),
-    }
-}
-
-/// Goes through a clone, and answers how many pairs it met.
-pub fn pairs_of(view: &mut TableView<'_>) -> u64 {
-    let mut pairs = 0u64;
-    for (_, value) in view.pairs() {
-        if value < u64::MAX {
-            pairs = pairs.saturating_add(1);
-        }
-    }
-    pairs
 }
 
 /// How many uses a pass may have.
@@ -148,7 +144,7 @@ impl<'t, R: Wait> Worker<R> for OfTable<'t> {
 }
 
 /// A sorted map under a lock for one at a time.
-#[derive(Drop)]
+#[derive(Clone, Copy)]
 pub struct OfMutex<'m> {
     pub map: &'m Mutex<Sorted>,
 }
@@ -173,7 +169,7 @@ impl<'m, R: Wait> Worker<R> for OfMutex<'m> {
 }
 
 /// A sorted map under a lock that readers share.
-#[derive(Drop)]
+#[derive(Clone, Copy)]
 pub struct OfRwLock<'m> {
     pub map: &'m RwLock<Sorted>,
 }
