@@ -2,7 +2,10 @@
 use Rattle.std.specs.Prelude.{◌≡◌, ◌≢◌, ℕ, ◌<◌, List, [], ◌∷◌, ◌++◌, Option, Some, map, length}
 use Rattle.snap_model.specs.History.{told}
 use Rattle.snap_prelude.specs.{after, at, Begins, Call, call_key, calls_of}
-use Rattle.snap_prelude.specs.{Cloned, Ended, Entry, Extends, IsLegal, Known, Put}
+use Rattle.snap_prelude.specs.{Cloned, Ended, Entry, Extends, IsLegal, Known, Laid, Put, Remove}
+use Rattle.snap_search.specs.Prelude.{Reads}
+use Rattle.snap_table.specs.{Calls.Replies, Ready.IsReadyTo}
+use Rattle.map_tour.specs.{declared.calls.Keys.Keys, declared.calls.Worked.Worked}
 
 -- no entry of this history is at the key
 abbrev pub Spares : ℕ → List Entry → Type 0
@@ -24,6 +27,24 @@ pub record ReadsOwn (pass : Known) (key value : ℕ) (answer : Option ℕ) : Typ
   pub puts : own.call ≡ Put key value
   pub tells : answer ≡ told pass.view.seen key
   pub alone : Spares key since → answer ≡ Some value
+
+-- the put is made, and behind it the key is read
+abbrev pub ReadsBehindPut : (old new : Known) → (key value : ℕ) → Option ℕ → Type 0
+ReadsBehindPut old new key value answer = (mid : Known) × (reply : Option ℕ)
+    × Replies old mid (Put key value) reply × Reads mid new key answer
+
+abbrev pub odd_keys : Keys
+odd_keys = record { kept = 1; gone = 3; read = 5 }
+
+abbrev pub even_keys : Keys
+even_keys = record { kept = 2; gone = 4; read = 6 }
+
+-- one thread's work is done: these are its calls, and it has read its own last put
+pub record HasWorked (table : Laid) (pass : Known) (keys : Keys) (done : Worked) : Type 0 where
+  pub ready : IsReadyTo table pass.view.who 4 done.pass
+  pub made : calls_made done.pass ≡ calls_made pass
+      ++ Put keys.kept 10 ∷ Put keys.gone 20 ∷ Remove keys.gone ∷ Put keys.read 30 ∷ []
+  pub own : ReadsOwn done.pass keys.read 30 done.answer
 
 -- a clone answers as the map stood when it was made: behind all that the pass had seen and done,
 -- and before what it did since

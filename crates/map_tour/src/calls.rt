@@ -1,8 +1,9 @@
 //! Calls of the map in small groups, each with the clause that its user wants and that the map's contracts give.
 ghost use Rattle.std.specs.Prelude.{◌≡◌, ◌<◌, ◌+◌, ◌^◌, ◌++◌, ◌∷◌, [], IfOk};
-ghost use Rattle.snap_prelude.specs.{Begins, Put, Remove};
+ghost use Rattle.snap_prelude.specs.{Begins, Put};
 ghost use Rattle.snap_table.specs.Ready.{IsReadyTo};
-ghost use Rattle.map_tour.specs.Tour.{AnswersAsItStood, calls_made, ReadsOwn, TellsBoth};
+ghost use Rattle.map_tour.specs.Tour.{AnswersAsItStood, calls_made, even_keys, HasWorked, odd_keys, ReadsBehindPut};
+ghost use Rattle.map_tour.specs.Tour.{ReadsOwn, TellsBoth};
 
 use snap_model::{Key, OutOfMemory};
 use snap_table::{Front, Full, Pass, SnapTable, TableView};
@@ -13,7 +14,9 @@ use std::thread::Threads;
 
 /// An empty table of 64 rows, with two passes.
 pub fn open_for_two(alloc: Global) -> Result<(SnapTable, Pass, Pass), OutOfMemory>
-    ensures { IfOk result (λ t. (t.0.passes ≡ 2) × IsReadyTo t.0 0 0 t.1 × IsReadyTo t.0 1 0 t.2) }
+    ensures table { IfOk result (λ t. (t.0.rows ≡ 64) × (t.0.passes ≡ 2)) }
+    ensures empty { IfOk result (λ t. (t.1.view.seen ≡ []) × (t.2.view.seen ≡ [])) }
+    ensures ready { IfOk result (λ t. IsReadyTo t.0 0 0 t.1 × IsReadyTo t.0 1 0 t.2) }
 {
     let (table, mut passes) = SnapTable::open(alloc, 64, 2)?;
     let second = passes.pop().unwrap();
@@ -32,6 +35,7 @@ pub fn put_and_get<R: Wait>(
     requires ready { IsReadyTo table.now pass.old.view.who 3 pass.old }
     requires value { value + 1 < 2 ^ 64 }
     ensures own { IfOk result (λ answer. ReadsOwn pass.new key value answer) }
+    ensures reads { IfOk result (λ answer. ReadsBehindPut pass.old pass.new key value answer) }
     ensures made { IfOk result (λ _. calls_made pass.new
         ≡ calls_made pass.old ++ Put key value ∷ []) }
     ensures ready { IsReadyTo table.now pass.old.view.who 4 pass.new }
@@ -58,10 +62,7 @@ pub struct Worked {
 /// One thread's work: three keys are put, one of them is taken out again, and the last is read.
 pub fn work<R: Wait>(table: &SnapTable, rt: &R, mut pass: Pass, keys: Keys) -> Result<Worked, Full>
     requires { IsReadyTo table.now pass.view.who 0 pass }
-    ensures ready { IfOk result (λ done. IsReadyTo table.now pass.view.who 4 done.pass) }
-    ensures made { IfOk result (λ done. calls_made done.pass ≡ calls_made pass
-        ++ Put keys.kept 10 ∷ Put keys.gone 20 ∷ Remove keys.gone ∷ Put keys.read 30 ∷ []) }
-    ensures own { IfOk result (λ done. ReadsOwn done.pass keys.read 30 done.answer) }
+    ensures { IfOk result (HasWorked table.now pass keys) }
 {
     table.put(rt, &mut pass, keys.kept, 10)?;
     table.put(rt, &mut pass, keys.gone, 20)?;
@@ -79,8 +80,8 @@ pub fn work_by_two<R: Threads + Wait + Sync>(
 ) -> (Result<Worked, Full>, Result<Worked, Full>)
     requires first { IsReadyTo table.now first.view.who 0 first }
     requires second { IsReadyTo table.now second.view.who 0 second }
-    ensures first { IfOk result.0 (λ done. IsReadyTo table.now first.view.who 4 done.pass) }
-    ensures second { IfOk result.1 (λ done. IsReadyTo table.now second.view.who 4 done.pass) }
+    ensures first { IfOk result.0 (HasWorked table.now first odd_keys) }
+    ensures second { IfOk result.1 (HasWorked table.now second even_keys) }
 {
     let odd = Keys {
         kept: 1,

@@ -12,17 +12,26 @@ mod short;
 use calls::{clone_and_put, close, hand_on, open_for_two, work_by_two};
 use fault::Fault;
 use short::in_short;
-use snap_table::{Pass, SnapTable, TableView};
+use snap_table::{Front, Pass, SnapTable, TableView};
+use std::alloc::Global;
 use std::io::Print;
 use std::sync::Wait;
 use std::thread::Threads;
 
 fn main(rt: HostRuntime) -> Result<(), Fault> {
-    in_short(&rt, rt.alloc())?;
+    let writes = in_short(&rt, rt.alloc())?;
+    println!(rt; "writes {writes}")?;
+    in_full(&rt, rt.alloc())
+}
 
-    let (table, first, second) = open_for_two(rt.alloc())?;
-    let (first, second) = tour(&rt, &table, first, second)?;
-    let front = close(table, first, second);
+// By two threads, from the table's opening to its end.
+fn in_full<R: Threads + Wait + Print + Sync>(rt: &R, alloc: Global) -> Result<(), Fault> {
+    let (table, first, second) = open_for_two(alloc)?;
+    let (first, second) = tour(rt, &table, first, second)?;
+    tell_front(rt, close(table, first, second))
+}
+
+fn tell_front<R: Print>(rt: &R, front: Front) -> Result<(), Fault> {
     println!(rt; "writes {}, pairs {}", front.writes, front.pairs)?;
     Ok(())
 }
@@ -39,11 +48,27 @@ fn tour<R: Threads + Wait + Print + Sync>(
     ensures first { IfOk result (λ ended. IsReadyTo table.now 0 6 ended.0) }
     ensures second { IfOk result (λ ended. IsReadyTo table.now 1 6 ended.1) }
 {
+    let (mut first, mut second) = read_by_two(rt, table, first, second)?;
+    ask_behind_note(rt, table, &mut first, &mut second)?;
+    ask_beside_clone(rt, table, &mut second)?;
+    Ok((first, second))
+}
+
+// The work of both threads, and what each of them read.
+fn read_by_two<R: Threads + Wait + Print + Sync>(
+    rt: &R,
+    table: &SnapTable,
+    first: Pass,
+    second: Pass,
+) -> Result<(Pass, Pass), Fault>
+    requires first { IsReadyTo table.now 0 0 first }
+    requires second { IsReadyTo table.now 1 0 second }
+    ensures first { IfOk result (λ worked. IsReadyTo table.now 0 4 worked.0) }
+    ensures second { IfOk result (λ worked. IsReadyTo table.now 1 4 worked.1) }
+{
     let (one, two) = work_by_two(table, rt, first, second);
-    let (mut one, mut two) = (one?, two?);
+    let (one, two) = (one?, two?);
     println!(rt; "the threads read {:?} and {:?}", one.answer, two.answer)?;
-    ask_behind_note(rt, table, &mut one.pass, &mut two.pass)?;
-    ask_beside_clone(rt, table, &mut two.pass)?;
     Ok((one.pass, two.pass))
 }
 
@@ -77,9 +102,7 @@ fn ask_beside_clone<R: Wait + Print>(
     let (mut clone, stood) = clone_and_put(table, rt, pass, 6, 60)?;
     let now = table.get(rt, pass, 6);
     println!(rt; "6 has {now:?}, and in the clone {stood:?}")?;
-    show(rt, &mut clone)?;
-    clone.release();
-    Ok(())
+    show(rt, &mut clone)
 }
 
 // Some answers of the clone, in order.
