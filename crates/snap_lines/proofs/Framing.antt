@@ -1,18 +1,18 @@
 -- How a frame lies, and how it comes apart. Assumes `Logic`.
 --     frame_is          the bytes and the alignment of a frame
 --     opens_frame       a frame is the block, the room of its address, and what makes it whole with them
-use Rattle.std.proofs.Common.{◌≡◌, ℕ, zero, ◌+◌, ◌-◌, ◌*◌, ◌/◌, ◌%◌, ◌^◌, ◌<◌, max, List, [], ◌∷◌, refl, sym, ap, subst, ◌∙◌, arith}
+use Rattle.std.proofs.Common.{◌≡◌, ℕ, zero, ◌+◌, ◌-◌, ◌*◌, ◌/◌, ◌%◌, ◌^◌, ◌<◌, max, [], ◌∷◌, refl, sym, ap, subst, ◌∙◌, arith}
 use native.Mathlib.Nat.{mod_self, sub-zero}
 use seplogic.Ra.Ura.{Ura}
-use mir.Syntax.{Ty, Tys, Width, w8, w16, w32, w64, w128, ty_int, ty_ptr, ty_array, ty_struct, tcons, tnil}
+use mir.Syntax.{Ty, Tys, Width, w8, w16, w32, w64, w128, ty_int, ty_ptr, ty_array, tcons, tnil}
 use mir.Val.{bytes}
-use prog.Memory.{size, align, aligns, pad, up, capped}
+use prog.Memory.{size, align, pad, up, capped}
 use prog.Align.{Dv, dv→, align_w, align-bytes}
 use prog.Capped.{capped_is}
 use base.Logic.{SProp, ent, sep, emp, wand, apply∗}
-use types.Logic.{Logic, sem}
-use types.Kit.{‵, raw, ◌⊛◌, ◌$◌, ◌∵◌, !, qed, move, use1, use2, split, join, frame as fits_first, assume, done}
-use Rattle.snap_lines.specs.Frames.{frame, note_at, frame_size, note, closes_frame}
+use types.Logic.{Logic}
+use types.Kit.{raw, ◌⊛◌, ◌$◌, ◌∵◌, !, qed, move, use1, use2, split, join, frame as fits_first, assume, done}
+use Rattle.snap_lines.specs.Frames.{frame, note_at, frame_size, note}
 
 abbrev gap : Ty
 gap = ty_array (ty_int w128) 3

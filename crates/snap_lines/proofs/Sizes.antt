@@ -7,7 +7,7 @@ use base.Logic.{SProp, ent, guard, guard_i, emp, via, id⊢}
 use base.Fml.{ftrue}
 use prog.Memory.{Memory}
 use prog.Routine.{Routine}
-use types.Logic.{Logic, sem}
+use types.Logic.{Logic}
 use contract.Monad.{Fun, fact, fact_i}
 use prog.Wp.{Env}
 use types.Run.{Opd}

@@ -3,7 +3,7 @@
 --     note_at n         how far behind the start of a block for n bytes the address stands
 --     frame_size n      the bytes of its frame
 --     frame_token holds τ p      the block at p lies in a frame at whose end the frame's address stands; with the block it makes the whole frame, which may be given back
-use Rattle.std.specs.Prelude.{ℕ, ◌+◌, ◌*◌, ◌/◌, ◌^◌, [], ◌∷◌}
+use Rattle.std.specs.Prelude.{ℕ, ◌+◌, ◌*◌, ◌/◌, ◌^◌, []}
 use mir.Syntax.{Ty, w128, ty_int, ty_ptr, ty_array, ty_struct, tcons, tnil}
 use mir.Val.{vptr}
 use prog.Memory.{size}

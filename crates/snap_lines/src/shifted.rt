@@ -13,9 +13,9 @@ const UNIT: usize = 16;
 // Blocks have fewer bytes.
 const MOST: usize = 1 << 62;
 
-/// An allocator over `B`, which asks `B` for a frame around each block: 48 bytes, the block, and the frame's
-/// address behind it, since no pointer goes down. So a frame at 16 mod 64 has its block at 0 mod 64. A block
-/// is right wherever its frame lies.
+/// An allocator over `B`, which asks `B` for a frame around each block: 48 bytes, the block, and
+/// the frame's address behind it, since no pointer goes down. So a frame at 16 mod 64 has its block
+/// at 0 mod 64. A block is right wherever its frame lies.
 ///
 /// A call costs one of `B`, for 56 to 71 bytes more, and a write or read of the address.
 #[derive(Clone, Copy)]

@@ -4,14 +4,13 @@ use seplogic.Ra.Ura.{Ura}
 use mir.Syntax.{Ty, Args, Fn, a_type, dnil, dcons, ty_ptr}
 use mir.Val.{Val, vint, vptr, vunit}
 use mir.MapTy.{inst_fn}
-use base.Fraction.{full_share}
 use base.Logic.{SProp, ent, sep, emp, id⊢, never_e, apply∗}
-use base.Fml.{Lft, Share, Fml, ftrue, ffalse, fsep, fat, froom, flft}
+use base.Fml.{Lft, Share, ftrue, ffalse, fsep, froom, flft}
 use prog.Memory.{Memory, size, align, capped, up}
 use prog.Capped.{capped_is}
 use prog.Routine.{Routine}
 use prog.Wp.{WpFn, Tables}
-use types.Logic.{Logic, sem}
+use types.Logic.{Logic}
 use contract.BorrowLft.{◌⊑◌, ⊑_trans}
 use contract.Monad.{Fun, fact}
 use contract.Running.{tables, tables_of}
@@ -36,7 +35,7 @@ use denote.Triple.Statement.{Triple}
 use denote.Triple.Table.{entered, cited}
 use denote.Triple.Walked.{Stays, stay_dropped, walk_of, ends_at, walked, Goes-dropped, walk_Meets}
 use Rattle.std.proofs.alloc.Calls.{Al, α, seen, token, gives_key, Gives, at_gives, Gives-goes, Gives-Gives}
-use Rattle.snap_lines.specs.Frames.{frame, note_at, frame_size, note, closes_frame, frame_token}
+use Rattle.snap_lines.specs.Frames.{frame, note_at, frame_size, note, frame_token}
 use Rattle.snap_lines.proofs.Framing.{frame_is}
 use Rattle.snap_lines.proofs.Sizes.{Place, at_place, Place-goes, Place-gives, Around, at_around, Around-goes, Around-gives}
 use Rattle.snap_lines.proofs.shifted.note_place.Symbol as place_symbol
