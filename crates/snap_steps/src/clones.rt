@@ -221,6 +221,17 @@ pub fn load_row<L: Ledger>(
     }
 }
 
+/// Loads the first word of a row and its last, and drops what it finds: so the processor has the row
+/// at hand when it is read later. It counts no step, and row 0 will do.
+pub fn fetch_row(rows: &Rows, seat: &mut ViewSeat, row: RowNo)
+    requires table { IsCloneAt seat.old rows.now }
+    requires row { row ≤ rows.now.rows }
+    ensures seat { seat.new ≡ seat.old }
+{
+    let _first = copy_word(rows, seat, row, Field::Key);
+    let _last = copy_word(rows, seat, row, Field::Value);
+}
+
 /// The stamp of any row, as it is now. The seat notes one at its greatest count, with the row. That of the row which
 /// is the cause of the clone's balance is such a stamp.
 pub fn load_stamp(rows: &Rows, seat: &mut ViewSeat, row: RowNo) -> Stamp

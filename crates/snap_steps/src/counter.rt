@@ -4,7 +4,8 @@ ghost use Rattle.std.specs.Prelude.{◌≡◌, ◌+◌, ◌<◌, ℕ};
 use std::marker::Model;
 use std::sync::ledger::{Blank, Book, Ledger, Share};
 
-/// How many rows were read. It takes no bytes, and only `load_row` counts on.
+/// How many rows were read. It takes no bytes, and only `load_row` counts on: `fetch_row` keeps
+/// nothing of what it loads.
 #[derive(Drop)]
 pub struct Steps<L: Ledger> {
     book: Book<L>,

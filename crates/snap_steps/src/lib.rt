@@ -37,7 +37,7 @@ pub use aiming::{aim, pass_up, settle_last};
 pub use births::{load_birth, note_birth};
 pub use changes::mark_shrinking;
 pub use clones::{
-    RowCopy, ViewSeat, count_writes, load_root, load_row, load_stamp, split_view, twin,
+    RowCopy, ViewSeat, count_writes, fetch_row, load_root, load_row, load_stamp, split_view, twin,
 };
 pub use copies::{link_copy, load_shared};
 pub use counter::Steps;

@@ -6,7 +6,7 @@ use Rattle.snap_prelude.proofs.Common.{child, depth_size, find_at, find_here}
 use Rattle.snap_view.specs.Nearest.{reaches, IsNearest, turn, on, nearer_or, if_reached, nearest_row, levels}
 use Rattle.snap_view.specs.{Tops.HasTop, Tops.HasTree, Tops.IsTopOf, Tops.rows_read, declared.way.WayDown.WayDown}
 use Rattle.snap_view.proofs.{Levels.levels_within, Nearing.nearest_is, Nearing.same_nearest}
-use Rattle.snap_view.proofs.Within.{within_itself, levels_below, levels_are, next_tree, next_within, next_root, next_depth, next_find}
+use Rattle.snap_view.proofs.Within.{within_itself, within_below, levels_below, levels_are, next_tree, next_within, next_root, next_depth, next_find}
 
 -- the row below a copy on the way to the row nearest to `from`
 abbrev pub next_row : Side → ℕ → RowCopy → ℕ
@@ -67,6 +67,14 @@ module _ (t u : Tree) (within : IsSubtree u t) (copy : RowCopy) (top : HasTop u 
 
   pub has_next : HasTree t (next_row side from copy)
   has_next = record { tree = next_tree side from top.top top.left top.right; within = below_within; at = below_root }
+
+  -- the row on the far side
+  pub has_far : HasTree t (on side copy.left copy.right)
+  has_far = go side (within_below t top.top top.left top.right node_within)
+    where
+      go : (d : Side) → IsSubtree top.left t × IsSubtree top.right t → HasTree t (on d copy.left copy.right)
+      go Left w = record { tree = top.left; within = w.0; at = sym top.copied.left }
+      go Right w = record { tree = top.right; within = w.1; at = sym top.copied.right }
 
   pub next_fewer : (low high : ℕ) (next : Option RowCopy) → Between low high t → TopsAt t (next_row side from copy) next → levels_below t next < levels_below t (Some copy)
   next_fewer low high next h tops =

@@ -109,6 +109,14 @@ top_at rows t row p h ne = go h.tree h.within h.at
     go empty w z = absurd (ne (sym z))
     go (node n a b) w z = let each = within_each (λ r. (0 < r) × (r ≤ rows)) t (node n a b) w p in (subst (λ (r : ℕ). Stands r t) z (within_stands t n a b w), omega (arith, each.0.1, z))
 
+-- a row or none
+pub low_row : (rows : ℕ) (t : Tree) (row : ℕ) → ArePlaced rows t → HasTree t row → row ≤ rows
+low_row rows t row p h = go h.tree h.within h.at
+  where
+    go : (u : Tree) → IsSubtree u t → root u ≡ row → row ≤ rows
+    go empty w z = omega (arith, z)
+    go (node n a b) w z = let each = within_each (λ r. (0 < r) × (r ≤ rows)) t (node n a b) w p in omega (arith, each.0.1, z)
+
 pub copied_top : (t : Tree) (row : ℕ) (copy : RowCopy) → row ≢ 0 → CopiesRow t row copy → (u : Tree) → IsSubtree u t → root u ≡ row → IsTopOf u (Some copy)
 copied_top t row copy ne c empty w z = absurd (ne (sym z))
 copied_top t row copy ne c (node n a b) w z = record { top = n; left = a; right = b; is = refl; copied = c n a b w z }

@@ -2,7 +2,7 @@
 ghost use Rattle.std.specs.Prelude.{◌≡◌, [], true, false};
 ghost use Rattle.snap_view.specs.Ahead.{AddsAhead, met};
 
-use crate::way::{MOST_LEVELS, reaches};
+use crate::way::{MOST_LEVELS, child, reaches};
 use arrayvec::ArrayVec;
 use snap_stamp::{Key, RowNo, Side};
 use snap_steps::RowCopy;
@@ -58,10 +58,7 @@ impl RowsAhead {
         if !reaches(side, from, copy.key) {
             return;
         }
-        let beyond = match side {
-            Side::Left => copy.left,
-            Side::Right => copy.right,
-        };
+        let beyond = child(copy, side);
         let ahead = Ahead {
             key: copy.key,
             value: copy.value,

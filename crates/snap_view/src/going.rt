@@ -2,16 +2,27 @@
 ghost use Rattle.std.specs.Prelude.{◌≡◌, ◌<◌};
 ghost use Rattle.snap_prelude.specs.{after, at, image, IsCloneOf, IsSubtree, root, Tree};
 ghost use Rattle.snap_view.specs.{Ahead.AddsAhead, Ahead.AreAhead, Ahead.ArePassed, Ahead.rows_ahead};
-ghost use Rattle.snap_view.specs.{Nearest.IsNearest, Nearest.IsNearestPair, Tops.HasTree};
+ghost use Rattle.snap_view.specs.Nearest.{IsNearest, IsNearestPair, on};
+ghost use Rattle.snap_view.specs.Tops.{HasTree};
 
 use crate::ahead::RowsAhead;
 use crate::table_view::TableView;
-use crate::way::{behind, below};
+use crate::way::{behind, below, child};
 use snap_stamp::{Key, RowNo, Side};
-use snap_steps::Steps;
+use snap_steps::{RowCopy, Steps, fetch_row};
 use std::sync::ledger::{Blank, Ledger};
 
 impl<'t> TableView<'t> {
+    // Has the processor fetch the row on the far side of this one, while the walk is on the near
+    // side. Where the walk goes straight to the far side, it comes a little early, and that is all.
+    fn fetch(&mut self, copy: &RowCopy, side: Side)
+        requires { HasTree (image self.old) (on side copy.now.left copy.now.right) }
+        ensures view { self.new ≡ self.old }
+    {
+        let rows = self.rows;
+        fetch_row(rows, &mut self.seat, child(copy, side));
+    }
+
     // Notes the rows ahead on the way down from this row to the row nearest to `from`.
     fn look_down<L: Ledger>(
         &mut self,
@@ -30,6 +41,7 @@ impl<'t> TableView<'t> {
         let mut here = self.row_at(row, steps);
         while let Some(copy) = here {
             ahead.meet(&copy, side, from);
+            self.fetch(&copy, side);
             here = self.row_at(below(&copy, side, from), steps);
         }
     }

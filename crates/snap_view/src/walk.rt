@@ -9,8 +9,10 @@ use snap_stamp::{Key, Side};
 use std::marker::{Brand, Model};
 use std::sync::ledger::Blank;
 
-/// The pairs of a clone whose keys lie in a range, toward one side. In a tree of at most 64 levels each row is read
-/// once on the way through them; in a deeper one each pair may be looked for from the clone's root.
+/// The pairs of a clone whose keys lie in a range, toward one side. In a tree of at most 64 levels
+/// each row is read once on the way through them, and two of its words may be loaded once before, so
+/// that the processor has it at hand by then; in a deeper tree each pair may be looked for from the
+/// clone's root.
 #[derive(Drop)]
 pub struct Walk<'t> {
     view: TableView<'t>,

@@ -26,6 +26,16 @@ pub fn reaches(side: Side, from: Key, key: Key) -> bool
     }
 }
 
+// The row below this one on that side, 0 for none.
+pub fn child(copy: &RowCopy, side: Side) -> RowNo
+    ensures { result ≡ on side copy.now.left copy.now.right }
+{
+    match side {
+        Side::Left => copy.left,
+        Side::Right => copy.right,
+    }
+}
+
 // The row below this one on the way to the row nearest to `from`: back toward `from` where this one reaches.
 pub fn below(copy: &RowCopy, side: Side, from: Key) -> RowNo
     ensures { result ≡ on (turn side from copy.now.key) copy.now.left copy.now.right }
@@ -35,10 +45,7 @@ pub fn below(copy: &RowCopy, side: Side, from: Key) -> RowNo
     } else {
         side
     };
-    match turn {
-        Side::Left => copy.left,
-        Side::Right => copy.right,
-    }
+    child(copy, turn)
 }
 
 // The nearer of two rows, where the copy is nearer than the best so far if it reaches.
