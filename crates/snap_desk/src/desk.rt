@@ -76,7 +76,8 @@ impl Desk {
         ensures kept { OnOk result
             (self.new.reply ≢ None
             → KeepsShort self.old self.new (reply_text command.now reply.now) REPLY_PIECE_BYTES) }
-        ensures none { self.old.reply ≡ None → put_at self.new.post ≡ put_at self.old.post }
+        ensures none { self.old.reply ≡ None
+            → (put_at self.new.post ≡ put_at self.old.post) × (self.new.lines ≡ self.old.lines) }
     {
         self.full += full_of(reply);
         if self.reply.is_none() {

@@ -19,9 +19,10 @@ use snap_steps::{Full, Pass, Rows};
 use std::sync::Wait;
 
 /// Makes the entry of the call, and answers its reply: what the map had at the key. A removal of an absent key has
-/// its entry too. `Full` comes only where every row was handed out and the call needs one: it is a put of an absent
-/// key, or noted rows of earlier epochs on the key's way more often than it drew one. Then there is no entry. No row is
-/// held afterwards. `way` then has the last rows of the way to the place, from that at which the entry was made.
+/// its entry too. `Full` comes only where every row was handed out, and it is a put of an absent key, or the call noted
+/// rows of earlier epochs on the key's way more often than it drew one: the same row at each search, which another pass
+/// may have copied since. Then there is no entry. No row is held afterwards. `way` then has rows of the way to the place,
+/// by the code the last ones, from that at which the entry was made.
 pub fn write<R: Wait>(
     rows: &Rows,
     rt: &R,
