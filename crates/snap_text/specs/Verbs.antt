@@ -33,6 +33,13 @@ verbs =
 unfoldable pub verb_of : List ℕ → Option Verb
 verb_of word = find (λ verb. bytes_eq (verb_word verb) word) verbs
 
+-- the verb asks a whole clone
+abbrev pub AsksOfClone : Verb → Type 0
+AsksOfClone verb.First = Unit {0}
+AsksOfClone verb.Last = Unit {0}
+AsksOfClone verb.Depth = Unit {0}
+AsksOfClone _ = ⊥
+
 -- the verb asks a clone at a key
 abbrev pub AsksAtKey : Verb → Type 0
 AsksAtKey verb.See = Unit {0}
