@@ -1,10 +1,10 @@
 -- Rows that a pass takes one below the other.
-use Rattle.std.proofs.Common.{◌≡◌, ◌≢◌, refl, ℕ, ◌<◌, ◌≤◌, List, [], ◌∷◌, sym, ap, ◌∙◌, subst, arith}
+use Rattle.std.proofs.Common.{◌≡◌, ◌≢◌, inl, refl, ℕ, ◌<◌, ◌≤◌, List, [], ◌∷◌, sym, ap, ◌∙◌, subst, arith}
 use Rattle.snap_copy.specs.Mending.{Firm, Looks, NoWord}
 use Rattle.snap_locks.specs.Held.{HasLocked}
 use Rattle.snap_repair.proofs.Mending.{firm_on, grip_firm, locked_firm, looks_on, read_looks}
 use Rattle.snap_repair.specs.Answers.{IsMending}
-use Rattle.snap_shape.specs.{Grips.edge_at, Grips.HasGrip, Grips.IsEdge, Grips.Leads, Grips.turn_at}
+use Rattle.snap_shape.specs.{Grips.edge_at, Grips.HasGrip, Grips.IsEdge, Grips.Leads, Grips.turn_at, Shapes.MayRotate}
 use Rattle.snap_shape.specs.{declared.grip.Edge.Edge, declared.grip.Grip.Grip, declared.grip.Turn.Turn}
 use Rattle.snap_prelude.specs.{Becomes, count_of, Field, IsKnown, IsOf, Known, Laid}
 use Rattle.snap_prelude.specs.{last_count, link_field, no_debt, read, Side, times, Value}
@@ -108,26 +108,33 @@ taken_on rows a b c t h s = record {
   only = λ r nz n1 n2 n3. ap (times r) s.1 ∙ h.only r nz n1 n2 n3;
 }
 
+-- they may be turned, where the pass owes nothing
+may_rotate : (rows : Laid) (a k : Known) (t : Turn) → HasTaken rows a k t → k.view.debt ≡ no_debt → count_of t.row.stamp < last_count → MayRotate rows k t t.row.key
+may_rotate rows a k t h owes count = record { table = h.of; within = h.rows_are; turn = h.turn; aims = inl (h.turn.upper.below.is_key, inl owes); count = count; whole = h.whole }
+
 -- the rows of a rotation
 pub may_turn : (rows : Laid) (a b c : Known) (e : Edge) (side : Side) (raised : Grip) → IsOf a rows → IsMending a.view → a.view.debt ≡ no_debt → TakesEdge rows.rows a b e → Takes rows.rows b c e.parent.row e.child side raised → count_of e.child.stamp < last_count → MayTurn rows a c (turn_at e.parent e.side e.child side raised)
-may_turn rows a b c e side raised of m owes t u count = record { taken = has_taken rows a b c e side raised of m t u; some = t.some; owes = (firm_on a b c t.firm u.firm).debt ∙ owes; count = count }
+may_turn rows a b c e side raised of m owes t u count =
+    let taken = has_taken rows a b c e side raised of m t u in let none = (firm_on a b c t.firm u.firm).debt ∙ owes in
+    record { taken = taken; some = t.some; owes = none; rotates = may_rotate rows a c (turn_at e.parent e.side e.child side raised) taken none count }
 
 -- the rows of a rotation of the root
 pub may_turn_root : (rows : Laid) (a b c : Known) (e : Edge) (side : Side) (raised : Grip) → IsOf a rows → IsMending a.view → a.view.debt ≡ no_debt → TakesTop rows.rows a b e → Takes rows.rows b c 0 e.child side raised → count_of e.child.stamp < last_count → MayTurnRoot rows a c (turn_at e.parent e.side e.child side raised)
 may_turn_root rows a b c e side raised of m owes t u count =
-    let all : Firm a c NoWord = firm_on a b c t.firm u.firm in record {
-      taken = record {
-        of = of_kept rows a c all of;
-        rows_are = (t.low.0, t.low.1, u.low);
-        turn = record { upper = edge_kept b c e.parent e.child e.side u.firm t.edge; lower = u.edge; apart = λ z. u.apart (sym z ∙ t.top) };
-        whole = all.mends.whole ∙ m.whole;
-        stage = ap (λ (k : Known). k.view.stage) all.mends.is;
-        zero = u.firm.held 0 t.zero;
-        only = λ r nz n1 n2 n3. u.only r nz nz n2 n3;
-      };
+    let all : Firm a c NoWord = firm_on a b c t.firm u.firm in
+    let taken : HasTaken rows a c (turn_at e.parent e.side e.child side raised) = record {
+      of = of_kept rows a c all of;
+      rows_are = (t.low.0, t.low.1, u.low);
+      turn = record { upper = edge_kept b c e.parent e.child e.side u.firm t.edge; lower = u.edge; apart = λ z. u.apart (sym z ∙ t.top) };
+      whole = all.mends.whole ∙ m.whole;
+      stage = ap (λ (k : Known). k.view.stage) all.mends.is;
+      zero = u.firm.held 0 t.zero;
+      only = λ r nz n1 n2 n3. u.only r nz nz n2 n3;
+    } in record {
       top = t.top;
+      taken = taken;
       owes = all.debt ∙ owes;
-      count = count;
+      rotates = may_rotate rows a c (turn_at e.parent e.side e.child side raised) taken (all.debt ∙ owes) count;
     }
 
 abbrev word : Known → Known → ℕ → Field → ℕ → Type 0

@@ -1,11 +1,11 @@
 -- A write that stops in the midst of a change of the tree's shape: the rows that its pass has taken
 -- until then.
-use Rattle.std.specs.Prelude.{◌≡◌, ◌≢◌, ◌≤◌, ◌<◌, ℕ, Bool, false}
+use Rattle.std.specs.Prelude.{◌≡◌, ◌≢◌, ◌≤◌, ℕ, Bool, false}
 use Rattle.snap_copy.specs.Mending.{Firm, NoWord}
-use Rattle.snap_prelude.specs.{AimsAt, Among, count_of, IsOf, IsRouting, Known, Laid, last_count}
+use Rattle.snap_prelude.specs.{AimsAt, Among, IsOf, IsRouting, Known, Laid}
 use Rattle.snap_prelude.specs.{no_debt, Nothing, Side, times, View, Writing}
 use Rattle.snap_shape.specs.{Grips.AreWithin, Grips.edge_at, Grips.IsEdge, Grips.IsTurning, Grips.IsWithin}
-use Rattle.snap_shape.specs.{declared.grip.Edge.Edge, declared.grip.Grip.Grip, declared.grip.Turn.Turn}
+use Rattle.snap_shape.specs.{Shapes.MayRotate, declared.grip.Edge.Edge, declared.grip.Grip.Grip, declared.grip.Turn.Turn}
 
 -- no row is held but row 0 and these two
 abbrev pub HoldsOnly : View → ℕ → ℕ → Type 0
@@ -62,14 +62,14 @@ pub record MayTurn (rows : Laid) (old k : Known) (t : Turn) : Type 0 where
   pub taken : HasTaken rows old k t
   pub some : t.parent.row ≢ 0
   pub owes : k.view.debt ≡ no_debt
-  pub count : count_of t.row.stamp < last_count
+  pub rotates : MayRotate rows k t t.row.key
 
 -- the pass can begin a rotation of the root
 pub record MayTurnRoot (rows : Laid) (old k : Known) (t : Turn) : Type 0 where
   pub taken : HasTaken rows old k t
   pub top : t.parent.row ≡ 0
   pub owes : k.view.debt ≡ no_debt
-  pub count : count_of t.row.stamp < last_count
+  pub rotates : MayRotate rows k t t.row.key
 
 -- the row may be unlinked: it has neither a value nor children, and the to-do key is its own
 pub record IsUnlinkable (v : View) (row : ℕ) : Type 0 where

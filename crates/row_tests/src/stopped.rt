@@ -1,9 +1,9 @@
 //! A write that stops in the midst of a rotation or of an unlinking, and the reads that then come by.
 ghost use Rattle.std.specs.Prelude.{◌≡◌, ◌<◌, ◌≤◌, ◌^◌, [], false, true};
-ghost use Rattle.snap_prelude.specs.{count_of, IsOf, last_count, no_debt, Nothing};
+ghost use Rattle.snap_prelude.specs.{IsOf, Nothing};
 ghost use Rattle.row_tests.specs.Stopping.{HoldsRoot, HoldsTop, HoldsTurn, IsUnlinkable, IsWritingPass};
 ghost use Rattle.snap_search.specs.Prelude.{IsWay};
-ghost use Rattle.snap_shape.specs.Grips.{AreWithin, IsEdge, IsTurning, IsWithin};
+ghost use Rattle.snap_shape.specs.Grips.{IsEdge, IsWithin};
 ghost use Rattle.snap_shape.specs.Shapes.{Rotates, Unlinks};
 ghost use Rattle.snap_table.specs.{Calls.IsIdle, Ready.IsReadyTo};
 ghost use Rattle.snap_update.specs.Answers.{FitsWord};
@@ -98,13 +98,8 @@ fn rotate_slowly<R: Abort + Wait>(
     reader: &mut Pass,
     turn: &Turn,
 )
-    requires table { IsOf pass.old rows.now }
     requires reader { IsOf reader.old rows.now }
-    requires rows { AreWithin rows.now.rows turn.now }
-    requires turn { IsTurning pass.old.view turn.now }
-    requires owes { pass.old.view.debt ≡ no_debt }
-    requires count { count_of turn.now.row.stamp < last_count }
-    requires whole { pass.old.view.doing ≡ Nothing }
+    requires rotates { MayRotate rows.now pass.old turn.now turn.now.row.key }
     ensures reader { IsOf reader.new rows.now }
     ensures turned { Rotates pass.old pass.new turn.now }
 {
@@ -369,13 +364,8 @@ fn stop_at_root<R: Abort + Wait>(rows: &Rows, rt: &R, pass: &mut Pass, reader: &
 
 // A rotation at the root, by which row 1 goes down below row 2, with a read of the key 2 after the first of five steps.
 fn rotate_root<R: Abort>(rows: &Rows, rt: &R, pass: &mut Pass, reader: &mut Pass, turn: &Turn)
-    requires table { IsOf pass.old rows.now }
     requires reader { IsOf reader.old rows.now }
-    requires rows { AreWithin rows.now.rows turn.now }
-    requires turn { IsTurning pass.old.view turn.now }
-    requires owes { pass.old.view.debt ≡ no_debt }
-    requires count { count_of turn.now.row.stamp < last_count }
-    requires whole { pass.old.view.doing ≡ Nothing }
+    requires rotates { MayRotate rows.now pass.old turn.now turn.now.row.key }
     ensures reader { IsOf reader.new rows.now }
     ensures turned { Rotates pass.old pass.new turn.now }
 {

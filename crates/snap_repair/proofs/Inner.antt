@@ -1,23 +1,36 @@
 -- The double rotation: what each of its parts leaves for the next.
-use Rattle.std.proofs.Common.{append_assoc, ◌≡◌, ◌≢◌, ◌∙◌, ◌∷◌, ◌++◌, inl, inr, ℕ, List, [], Bool, true, false, cond, le-leb, Option, Some, None, refl, sym, ap, subst, arith, zero, suc, ⊎_elim, ◌||◌}
+use Rattle.std.proofs.Common.{append_assoc, ◌≡◌, ◌≢◌, ◌≤◌, ◌<◌, ◌∙◌, ◌∷◌, ◌++◌, inl, inr, ℕ, List, [], Bool, true, false, cond, le-leb, Option, Some, None, refl, sym, ap, subst, arith, zero, suc, ⊎_elim, ◌||◌}
 use Rattle.snap_prelude.proofs.Common.{Snapshot}
 use Rattle.snap_repair.specs.Answers.{FindsWorn, Frees, IsMending, IsRefused, IsToLower, IsWornOut, Stops, TriesRepair, freed, stops_full}
 use Rattle.snap_repair.specs.declared.answer.Repaired.TheVariants.{Done, RowsOut, StampOut}
 use Rattle.snap_repair.specs.{Mending.Looks, Mending.mended, Mending.Mends, Raising.Lifts}
 use Rattle.snap_repair.specs.{declared.answer.Repaired.Repaired}
 use Rattle.snap_prelude.specs.{aimed_at, aimed_view, Among, Becomes, count_of, Fact, fact, Field}
-use Rattle.snap_prelude.specs.{is_last, IsHeldRow, IsKnown, Known, last_count, link_field, Mark}
+use Rattle.snap_prelude.specs.{is_last, IsHeldRow, IsKnown, IsOf, Known, Laid, last_count, link_field, Mark}
 use Rattle.snap_prelude.specs.{MayAimAt, Nothing, other, read, Side, Stamp, times, unlocked, View}
 use Rattle.snap_search.proofs.Working.{grows_read, no_notes}
 use Rattle.snap_shape.proofs.Shaping.{born, edge_stays, pair_of}
 use Rattle.snap_shape.proofs.Touching.{None as NoOther, Stays, grip_stays, loaded}
 use Rattle.snap_shape.specs.{Grips.edge_at, Grips.HasGrip, Grips.IsEdge, Grips.IsTurning, Grips.Leads, Grips.turn_at}
-use Rattle.snap_shape.specs.{Shapes.later, Shapes.Rotates, declared.grip.Grip.Grip, declared.grip.Turn.Turn}
+use Rattle.snap_shape.specs.{Grips.AreWithin, Shapes.later, Shapes.MayRotate, Shapes.Rotates, declared.grip.Grip.Grip, declared.grip.Turn.Turn}
 use Rattle.snap_repair.proofs.Mending.{edge_looks, grip_looks, keeps_holds, keeps_mends, looks_on, mends_on, mends_to, no_rows, read_looks}
 
 -- a pass that repairs goes on with it
 pub mending_on : (a b : Known) → Mends a b → IsMending a.view → IsMending b.view
 mending_on a b m h = let w = h.writing in record { writing = (w.0, w.1, ap (λ (k : Known). k.view.stage) m.is ∙ w.2); whole = m.whole ∙ h.whole }
+
+-- the row's child may be lowered below its own child: the row has the to-do key
+pub may_lower : (rows : Laid) (a e : Known) (t : Turn) (raised : Grip) → IsOf a rows → IsMending a.view → AreWithin rows.rows t × (raised.row ≤ rows.rows) → Looks a e → IsTurning a.view t → IsEdge a.view (edge_at t.raised (other t.side) raised) → t.row.row ≢ raised.row → a.view.debt.to_do ≡ Some t.row.key → count_of t.raised.stamp < last_count
+    → MayRotate rows e (turn_at t.row t.side t.raised (other t.side) raised) t.raised.key
+may_lower rows a e t raised of m low s q inner apart to_do count =
+    let is = s.0.mends.is in let u = edge_looks a e t.row t.raised t.side s q.lower in record {
+      table = (ap (λ (k : Known). k.table) is ∙ of.0, ap (λ (k : Known). k.view.rows) is ∙ of.1, ap (λ (k : Known). k.view.passes) is ∙ of.2);
+      within = (low.0.1, low.0.2, low.1);
+      turn = record { upper = u; lower = edge_looks a e t.raised raised (other t.side) s inner; apart = apart };
+      aims = inl (u.below.is_key, inr (inr (inr (record { is_row = q.upper.is_row; key = t.row.key; is_key = u.above.is_key; to_do = ap (λ d. d.to_do) s.0.debt ∙ to_do }))));
+      count = count;
+      whole = s.0.mends.whole ∙ m.whole;
+    }
 
 -- the to-do key moves
 pub aims_mends : (a b : Known) (r key : ℕ) → ((x : ℕ) × Becomes a b (aimed_view a.view r key x)) → Mends a b × (b.view.holds ≡ a.view.holds)

@@ -1,8 +1,9 @@
 -- What an unlinking and a rotation leave of what their pass knows. The map stays as it is.
-use Rattle.std.specs.Prelude.{◌≡◌, ◌≢◌, ◌+◌, ◌≤◌, ℕ, Some, true}
-use Rattle.snap_prelude.specs.{Becomes, Field, held_words, IsKnown, IsNoted, link_field, to_do_at}
-use Rattle.snap_prelude.specs.{Known, no_more_notes, Nothing, other, read, shrunk, times, View}
-use Rattle.snap_shape.specs.{Grips.HasGrip, Grips.IsTurning, Grips.Leads, declared.grip.Edge.Edge}
+use Rattle.std.specs.Prelude.{◌≡◌, ◌≢◌, ◌+◌, ◌≤◌, ◌<◌, ℕ, Some, true}
+use Rattle.snap_prelude.specs.{Becomes, count_of, Field, held_words, IsKnown, IsNoted, IsOf, Known, Laid}
+use Rattle.snap_prelude.specs.{last_count, link_field, no_more_notes, Nothing, other, read, shrunk, times}
+use Rattle.snap_prelude.specs.{to_do_at, TurnsFor, View}
+use Rattle.snap_shape.specs.{Grips.AreWithin, Grips.HasGrip, Grips.IsTurning, Grips.Leads, declared.grip.Edge.Edge}
 use Rattle.snap_shape.specs.{declared.grip.Grip.Grip, declared.grip.Turn.Turn}
 use Rattle.snap_prelude.specs.{any_trail}
 
@@ -39,6 +40,16 @@ pub record Unlinks (old new : Known) (e : Edge) (only : ℕ) : Type 0 where
   pub leads : Leads new.view e.parent.row e.side only
   pub to_do : new.view.debt.to_do ≡ to_do_at e.parent.row e.parent.key
 
+-- a pass may lower a row below its child: it holds the three rows, which are rows of this table, and
+-- is in no change; this may come to be the to-do key; and the row's stamp isn't at its greatest count
+pub record MayRotate (rows : Laid) (k : Known) (t : Turn) (key : ℕ) : Type 0 where
+  pub table : IsOf k rows
+  pub within : AreWithin rows.rows t
+  pub turn : IsTurning k.view t
+  pub aims : TurnsFor k.view t.parent.row t.row.row t.raised.row key
+  pub count : count_of t.row.stamp < last_count
+  pub whole : k.view.doing ≡ Nothing
+
 -- the view once a rotation was begun: the link across of the row that is to come up was loaded, the
 -- row that is to go down has the mark, and this is the to-do key
 abbrev pub turn_begun : View → Turn → ℕ → ℕ → View
@@ -46,10 +57,10 @@ turn_begun v t key middle =
     let loaded : View = read v t.raised.row (link_field (other t.side)) middle in
     shrunk loaded t.parent.row t.parent_side t.row.row t.side t.raised.row (t.row.stamp + 2) key
 
--- a rotation of these rows was begun by a pass that held them, and the link is known
-pub record HasBegunTurn (old new : Known) (t : Turn) (middle : ℕ) : Type 0 where
+-- a rotation of these rows was begun by a pass that held them, with this to-do key, and the link is
+-- known
+pub record HasBegunTurn (old new : Known) (t : Turn) (key middle : ℕ) : Type 0 where
   pub turn : IsTurning old.view t
-  pub key : ℕ
   pub begun : Becomes old new (turn_begun old.view t key middle)
   pub middle_is : Leads new.view t.raised.row (other t.side) middle
 

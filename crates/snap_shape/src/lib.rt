@@ -3,11 +3,11 @@
 //! Each is a change of several steps, which is whole again when the call returns. Every row that it touches is held.
 #![tactic(auto)]
 
-ghost use Rattle.std.specs.Prelude.{◌≡◌, ◌≢◌, ◌≤◌, ◌<◌};
+ghost use Rattle.std.specs.Prelude.{◌≡◌, ◌≢◌, ◌≤◌, ◌<◌, ℕ};
 ghost use Rattle.snap_prelude.specs.{AimsNear, Among, Becomes, count_of, IsOf, IsRouting, Known};
-ghost use Rattle.snap_prelude.specs.{last_count, Left, link_field, Nothing, read, Right, TurnsFor};
-ghost use Rattle.snap_shape.specs.Grips.{AreWithin, HasGrip, IsEdge, IsTurning, IsWithin, Leads, turn_below};
-ghost use Rattle.snap_shape.specs.Shapes.{HasBegunTurn, Rotates, Unlinks, later};
+ghost use Rattle.snap_prelude.specs.{last_count, Left, link_field, Nothing, read, Right};
+ghost use Rattle.snap_shape.specs.Grips.{AreWithin, HasGrip, IsEdge, IsWithin, Leads, turn_below};
+ghost use Rattle.snap_shape.specs.Shapes.{HasBegunTurn, MayRotate, Rotates, Unlinks, later};
 
 mod grip;
 
@@ -37,13 +37,7 @@ pub fn unlink_child(rows: &Rows, pass: &mut Pass, edge: &Edge, only: RowNo)
 /// Lowers a held row below its child, which takes its place. `key` is the to-do key meanwhile: the row's, or the raised
 /// row's where it is that already. Answers the row with its next stamp.
 pub fn rotate(rows: &Rows, pass: &mut Pass, turn: &Turn, key: Key) -> Grip
-    requires table { IsOf pass.old rows.now }
-    requires rows { AreWithin rows.now.rows turn.now }
-    requires turn { IsTurning pass.old.view turn.now }
-    requires aims { TurnsFor pass.old.view turn.now.parent.row turn.now.row.row
-        turn.now.raised.row key }
-    requires count { count_of turn.now.row.stamp < last_count }
-    requires whole { pass.old.view.doing ≡ Nothing }
+    requires { MayRotate rows.now pass.old turn.now key }
     ensures row { result ≡ later turn.now.row }
     ensures turned { Rotates pass.old pass.new turn.now }
 {
@@ -64,15 +58,9 @@ pub fn rotate(rows: &Rows, pass: &mut Pass, turn: &Turn, key: Key) -> Grip
 /// The first part of a rotation: the row that is to go down has the shrinking mark then. `key` is the to-do key from
 /// then on, as in `rotate`. Answers the link across of the row that is to come up.
 pub fn begin_turn(rows: &Rows, pass: &mut Pass, turn: &Turn, key: Key) -> RowNo
-    requires table { IsOf pass.old rows.now }
-    requires rows { AreWithin rows.now.rows turn.now }
-    requires turn { IsTurning pass.old.view turn.now }
-    requires aims { TurnsFor pass.old.view turn.now.parent.row turn.now.row.row
-        turn.now.raised.row key }
-    requires count { count_of turn.now.row.stamp < last_count }
-    requires whole { pass.old.view.doing ≡ Nothing }
+    requires { MayRotate rows.now pass.old turn.now key }
     ensures table { IsOf pass.new rows.now }
-    ensures begun { HasBegunTurn pass.old pass.new turn.now result }
+    ensures begun { HasBegunTurn pass.old pass.new turn.now key result }
 {
     let (parent_side, side, across) = (turn.parent_side, turn.side, turn.side.other());
     let (upper, lower, upward) = (turn.parent.row, turn.row.row, turn.raised.row);
@@ -98,8 +86,8 @@ pub fn end_turn(rows: &Rows, pass: &mut Pass, turn: &Turn, middle: RowNo)
     requires table { IsOf pass.old rows.now }
     requires rows { AreWithin rows.now.rows turn.now }
     requires count { count_of turn.now.row.stamp < last_count }
-    requires begun { (old : Known) × HasBegunTurn old pass.old turn.now middle }
-    ensures { (old : Known) → HasBegunTurn old pass.old turn.now middle
+    requires begun { (old : Known) × (key : ℕ) × HasBegunTurn old pass.old turn.now key middle }
+    ensures { (old : Known) → (key : ℕ) → HasBegunTurn old pass.old turn.now key middle
         → Rotates old pass.new turn.now }
 {
     let (parent_side, side) = (turn.parent_side, turn.side);
@@ -113,13 +101,7 @@ pub fn end_turn(rows: &Rows, pass: &mut Pass, turn: &Turn, middle: RowNo)
 
 /// Lowers a held row below its left child.
 pub fn rotate_right(rows: &Rows, pass: &mut Pass, edge: &Edge, raised: &Grip, key: Key) -> Grip
-    requires table { IsOf pass.old rows.now }
-    requires rows { IsWithin rows.now.rows edge.now × (raised.now.row ≤ rows.now.rows) }
-    requires turn { IsTurning pass.old.view (turn_below edge.now Left raised.now) }
-    requires aims { TurnsFor pass.old.view edge.now.parent.row edge.now.child.row raised.now.row
-        key }
-    requires count { count_of edge.now.child.stamp < last_count }
-    requires whole { pass.old.view.doing ≡ Nothing }
+    requires { MayRotate rows.now pass.old (turn_below edge.now Left raised.now) key }
     ensures row { result ≡ later edge.now.child }
     ensures turned { Rotates pass.old pass.new (turn_below edge.now Left raised.now) }
 {
@@ -129,13 +111,7 @@ pub fn rotate_right(rows: &Rows, pass: &mut Pass, edge: &Edge, raised: &Grip, ke
 
 /// Lowers a held row below its right child.
 pub fn rotate_left(rows: &Rows, pass: &mut Pass, edge: &Edge, raised: &Grip, key: Key) -> Grip
-    requires table { IsOf pass.old rows.now }
-    requires rows { IsWithin rows.now.rows edge.now × (raised.now.row ≤ rows.now.rows) }
-    requires turn { IsTurning pass.old.view (turn_below edge.now Right raised.now) }
-    requires aims { TurnsFor pass.old.view edge.now.parent.row edge.now.child.row raised.now.row
-        key }
-    requires count { count_of edge.now.child.stamp < last_count }
-    requires whole { pass.old.view.doing ≡ Nothing }
+    requires { MayRotate rows.now pass.old (turn_below edge.now Right raised.now) key }
     ensures row { result ≡ later edge.now.child }
     ensures turned { Rotates pass.old pass.new (turn_below edge.now Right raised.now) }
 {

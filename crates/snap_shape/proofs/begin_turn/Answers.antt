@@ -21,7 +21,6 @@ returns-clause-begun c =
     let load = by_side a b t.raised c.other-across.result (other t.side) middle c.other-across.ensures c.child_of-middle.ensures.pass in
     let mark = stored b m (shrunk b.view t.parent.row t.parent_side t.row.row t.side t.raised.row (t.row.stamp + 2) c.args.key) t.row.row Stamp (t.row.stamp + 2) c.mark_shrinking.ensures refl refl refl refl in record {
       turn = c.requires.turn;
-      key = c.args.key;
       begun = c.mark_shrinking.ensures ∙ ap (λ (k : Known). record { table = k.table; view = shrunk k.view t.parent.row t.parent_side t.row.row t.side t.raised.row (t.row.stamp + 2) c.args.key }) load;
       middle_is = mark.knows t.raised.row (link_field (other t.side)) middle (λ z. c.requires.turn.lower.apart (sym z.0)) (loaded_here a b t.raised.row (link_field (other t.side)) middle c.requires.turn.lower.below.held load);
     }

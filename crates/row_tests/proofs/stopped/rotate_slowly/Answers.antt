@@ -1,10 +1,10 @@
-use Rattle.std.proofs.Common.{ap, inl}
+use Rattle.std.proofs.Common.{ap}
 use Rattle.snap_shape.proofs.Begun.{ends_turn, key_still, stamps_still}
 use Rattle.snap_prelude.specs.{Known}
 use Rattle.row_tests.proofs.stopped.rotate_slowly.Goals as goal
 
-pub begin_turn-middle-requires-clause-aims : goal.begin_turn-middle-requires-clause-aims
-begin_turn-middle-requires-clause-aims g c = inl (c.requires.turn.upper.below.is_key, inl c.requires.owes)
+pub begin_turn-middle-requires : goal.begin_turn-middle-requires
+begin_turn-middle-requires g c = c.requires.rotates
 
 pub link_lowered-requires-clause-change : goal.link_lowered-requires-clause-change
 link_lowered-requires-clause-change g c = ap (λ (k : Known). k.view.doing) c.begin_turn-middle.ensures.begun.begun
@@ -13,13 +13,13 @@ pub link_lowered-requires-clause-middle : goal.link_lowered-requires-clause-midd
 link_lowered-requires-clause-middle g c = c.begin_turn-middle.ensures.begun.middle_is
 
 pub link_parent-requires-clause-key : goal.link_parent-requires-clause-key
-link_parent-requires-clause-key g c = let b = c.begin_turn-middle in key_still c.args.pass.now b.new.pass c.link_lowered.new.pass c.link_raised.new.pass c.args.turn.now b.result b.ensures.begun c.link_lowered.ensures c.link_raised.ensures
+link_parent-requires-clause-key g c = let b = c.begin_turn-middle in key_still c.args.pass.now b.new.pass c.link_lowered.new.pass c.link_raised.new.pass c.args.turn.now c.args.turn.now.row.key b.result b.ensures.begun c.link_lowered.ensures c.link_raised.ensures
 
 pub link_parent-requires-clause-stamps : goal.link_parent-requires-clause-stamps
-link_parent-requires-clause-stamps g c = let b = c.begin_turn-middle in stamps_still c.args.pass.now b.new.pass c.link_lowered.new.pass c.link_raised.new.pass c.args.turn.now b.result b.ensures.begun c.link_lowered.ensures c.link_raised.ensures
+link_parent-requires-clause-stamps g c = let b = c.begin_turn-middle in stamps_still c.args.pass.now b.new.pass c.link_lowered.new.pass c.link_raised.new.pass c.args.turn.now c.args.turn.now.row.key b.result b.ensures.begun c.link_lowered.ensures c.link_raised.ensures
 
 pub returns-clause-turned : goal.returns-clause-turned
 returns-clause-turned g c =
     let b = c.begin_turn-middle in
-    ends_turn c.args.pass.now b.new.pass c.link_lowered.new.pass c.link_raised.new.pass c.args.turn.now b.result b.ensures.begun c.link_lowered.ensures c.link_raised.ensures
+    ends_turn c.args.pass.now b.new.pass c.link_lowered.new.pass c.link_raised.new.pass c.args.turn.now c.args.turn.now.row.key b.result b.ensures.begun c.link_lowered.ensures c.link_raised.ensures
     c.link_parent.new.pass c.clear_shrinking.new.pass c.link_parent.ensures.pass c.clear_shrinking.ensures c.link_parent.ensures.listed

@@ -1,4 +1,4 @@
-use Rattle.std.proofs.Common.{ap, false, inl, rules}
+use Rattle.std.proofs.Common.{ap, false, rules}
 use Rattle.row_tests.proofs.{Entering.entered_mending, Freeing.holds_turn}
 use Rattle.row_tests.proofs.stopped.turn_beside.Goals as goal
 use Rattle.row_tests.specs.Stopping.{MayTurn}
@@ -7,10 +7,10 @@ use Rattle.snap_prelude.specs.{Known}
 pub take_turn-requires-clause-mending : goal.take_turn-requires-clause-mending
 take_turn-requires-clause-mending g c = entered_mending c.args.pass c.enter.new.pass c.requires.pass.idle c.enter.ensures
 
-pub rotate-requires-clause-aims : goal.rotate-requires-clause-aims
-rotate-requires-clause-aims g c =
+pub rotate-requires : goal.rotate-requires
+rotate-requires g c =
     let may : MayTurn c.args.rows.now c.enter.new.pass c.take_turn.new.pass c.expect-turn.result = search rules in
-    inl (may.taken.turn.upper.below.is_key, inl may.owes)
+    may.rotates
 
 pub free_and_end-requires-clause-turn : goal.free_and_end-requires-clause-turn
 free_and_end-requires-clause-turn g c =

@@ -6,8 +6,16 @@ use Rattle.snap_shape.specs.{Grips.edge_at, Grips.IsEdge, Shapes.later, declared
 use Rattle.snap_prelude.specs.{Side}
 use Rattle.snap_repair.proofs.tilting.lower_row.Goals as goal
 
-pub rotate-lowered-requires-clause-aims : goal.rotate-lowered-requires-clause-aims
-rotate-lowered-requires-clause-aims c = let t = c.args.turn.now in let a = c.args.pass.now in turns_looks a a t.parent.row t.row.row t.raised.row c.args.key (looks_itself a) c.requires.aims
+pub rotate-lowered-requires : goal.rotate-lowered-requires
+rotate-lowered-requires c =
+    let t = c.args.turn.now in let a = c.args.pass.now in record {
+      table = c.requires.table;
+      within = c.requires.rows;
+      turn = c.requires.turn;
+      aims = turns_looks a a t.parent.row t.row.row t.raised.row c.args.key (looks_itself a) c.requires.aims;
+      count = c.requires.count;
+      whole = c.requires.mending.whole;
+    }
 
 pub set_height-requires-clause-edge : goal.set_height-requires-clause-edge
 set_height-requires-clause-edge c =

@@ -1,8 +1,8 @@
 use Rattle.std.proofs.Common.{◌≡◌, ◌∙◌, ◌<◌, ℕ, Option, None, MatchOption, sym, subst, ap, rules, inr}
-use Rattle.snap_repair.proofs.Inner.{dropped_edge, mending_on, ready_again, rotation_mends, stops_none, stops_worn}
+use Rattle.snap_repair.proofs.Inner.{dropped_edge, may_lower, mending_on, ready_again, rotation_mends, stops_none, stops_worn}
 use Rattle.snap_repair.proofs.Mending.{edge_looks, mends_on}
 use Rattle.snap_repair.specs.{Answers.IsWornOut, Raising.Lifts, Raising.TurnsNear}
-use Rattle.snap_shape.specs.{Grips.edge_at, Grips.IsEdge, Grips.IsTurning, Grips.turn_at, Shapes.later, Shapes.Rotates}
+use Rattle.snap_shape.specs.{Grips.edge_at, Grips.IsEdge, Grips.IsTurning, Grips.turn_at, Shapes.later, Shapes.MayRotate, Shapes.Rotates}
 use Rattle.snap_shape.specs.{declared.grip.Grip.Grip, declared.grip.Turn.Turn}
 use Rattle.snap_prelude.specs.{count_of, last_count, other, Side}
 use Rattle.snap_repair.proofs.tilting.turn_twice.Goals as goal
@@ -11,24 +11,18 @@ pub returns-in-Some : goal.returns-in-Some
 returns-in-Some c =
     let s = c.worn_row.ensures.looks in stops_worn c.args.rows.now.rows c.args.pass.now c.worn_row.new.pass c.in-Some.worn c.of.result c.of.ensures s.1 c.in-Some.ensures.worn s.0.mends
 
-pub rotate-lowered-requires-clause-count : goal.rotate-lowered-requires-clause-count
-rotate-lowered-requires-clause-count c =
-    let t = c.args.turn.now in let raised = c.args.raised.now in let a = c.args.pass.now in let none : c.worn_row.result ≡ None = search rules in
-    let is : c.turn_of-first.result ≡ turn_at t.row t.side t.raised (other t.side) raised = c.turn_of-first.ensures ∙ ap (λ (d : Side). turn_at t.row t.side t.raised d raised) c.other.ensures in
-    let few = subst (λ (o : Option ℕ). MatchOption o ((count_of t.raised.stamp < last_count) × (count_of t.row.stamp < last_count)) (λ r. IsWornOut a c.worn_row.new.pass c.worn_row.new.pass r)) none c.worn_row.ensures.worn in
-    subst (λ (x : Turn). count_of x.row.stamp < last_count) (sym is) few.0
-
 pub lower_row-requires-clause-count : goal.lower_row-requires-clause-count
 lower_row-requires-clause-count c =
     let t = c.args.turn.now in let a = c.args.pass.now in let none : c.worn_row.result ≡ None = search rules in
     let few = subst (λ (o : Option ℕ). MatchOption o ((count_of t.raised.stamp < last_count) × (count_of t.row.stamp < last_count)) (λ r. IsWornOut a c.worn_row.new.pass c.worn_row.new.pass r)) none c.worn_row.ensures.worn in
     subst (λ (x : Turn). count_of x.row.stamp < last_count) (sym c.turn_of-second.ensures) few.1
 
-pub rotate-lowered-requires-clause-turn : goal.rotate-lowered-requires-clause-turn
-rotate-lowered-requires-clause-turn c =
-    let t = c.args.turn.now in let raised = c.args.raised.now in let q = c.requires.turn in let a = c.args.pass.now in let e = c.worn_row.new.pass in let s = c.worn_row.ensures.looks in
+pub rotate-lowered-requires : goal.rotate-lowered-requires
+rotate-lowered-requires c =
+    let t = c.args.turn.now in let raised = c.args.raised.now in let q = c.requires in let a = c.args.pass.now in let e = c.worn_row.new.pass in let s = c.worn_row.ensures.looks in let none : c.worn_row.result ≡ None = search rules in
     let is : c.turn_of-first.result ≡ turn_at t.row t.side t.raised (other t.side) raised = c.turn_of-first.ensures ∙ ap (λ (d : Side). turn_at t.row t.side t.raised d raised) c.other.ensures in
-    subst (IsTurning e.view) (sym is) (record { upper = edge_looks a e t.row t.raised t.side s q.lower; lower = edge_looks a e t.raised raised (other t.side) s c.requires.inner; apart = c.requires.apart.0 })
+    let few = subst (λ (o : Option ℕ). MatchOption o ((count_of t.raised.stamp < last_count) × (count_of t.row.stamp < last_count)) (λ r. IsWornOut a e e r)) none c.worn_row.ensures.worn in
+    subst (λ (x : Turn). MayRotate c.args.rows.now e x t.raised.key) (sym is) (may_lower c.args.rows.now a e t raised q.table q.mending q.rows s q.turn q.inner q.apart.0 q.to_do few.0)
 
 pub drop_lowered-requires-clause-mending : goal.drop_lowered-requires-clause-mending
 drop_lowered-requires-clause-mending c =
