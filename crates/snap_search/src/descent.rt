@@ -1,5 +1,5 @@
 //! The way down to the place of a key, for a write and for a repair.
-ghost use Rattle.std.specs.Prelude.{◌≡◌, MatchResult};
+ghost use Rattle.std.specs.Prelude.{◌≡◌, MatchResult, false};
 ghost use Rattle.snap_prelude.specs.{Among, IsOf, On};
 ghost use Rattle.snap_search.specs.{Kept.IsStep, Kept.IsWay, Kept.step_at, Leads.stand, Places.Comes, Places.Goes};
 ghost use Rattle.snap_search.specs.{Walk.at_top, Work.IsPresent};
@@ -38,6 +38,7 @@ pub(crate) fn descend<R: Wait>(
     ensures spot { IsStep rows.now.rows pass.new.view (step_at result.spot) }
     ensures above { IsStep rows.now.rows pass.new.view (step_at result.above) }
     ensures way { IsWay rows.now.rows pass.new.view way.new }
+    ensures stayed { way.new.stayed ≡ false }
 {
     way.clear();
     let mut above = top();

@@ -1,5 +1,5 @@
 //! The search for the row at which a repair begins. It keeps the last rows of its way, for the turns after the first.
-ghost use Rattle.std.specs.Prelude.{◌≡◌, Bool};
+ghost use Rattle.std.specs.Prelude.{◌≡◌, Bool, false};
 ghost use Rattle.snap_search.specs.{Endings.end_at, Endings.FindsEnd, Kept.IsWay, Kept.with_above};
 ghost use Rattle.snap_prelude.specs.{IsOf, Writing};
 
@@ -40,6 +40,7 @@ pub fn find_to_repair<R: Wait>(
         × (pass.old.view.stage ≡ Writing made counted) }
     ensures finds { FindsEnd rows.now.rows pass.old pass.new key result }
     ensures way { IsWay rows.now.rows pass.new.view way.new }
+    ensures stayed { way.new.stayed ≡ false }
 {
     let epoch = load_epoch(rows, pass);
     set_out_again(rows, pass, key);
@@ -51,8 +52,9 @@ pub fn find_to_repair<R: Wait>(
 // Keeps the row above the one with the key. Any other end of a way is the row from which it would go on, and the row
 // above that one is kept already.
 fn keep_above(way: &mut Way, descent: &Descent)
-    ensures { way.new.steps.items
+    ensures steps { way.new.steps.items
         ≡ with_above descent.now.place way.old.steps.items descent.now.spot }
+    ensures stayed { way.new.stayed ≡ way.old.stayed }
 {
     if let Place::Here { row: _ } = descent.place {
         way.meet(&descent.spot);

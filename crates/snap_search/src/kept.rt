@@ -1,6 +1,6 @@
 //! The last rows of a way down, for a repair that goes up it again. They are hints: a row may have another place
 //! meanwhile, or have left the tree, so whoever takes one checks it under its locks.
-ghost use Rattle.std.specs.Prelude.{◌≡◌, ◌-◌, [], length, slice_get};
+ghost use Rattle.std.specs.Prelude.{◌≡◌, ◌-◌, [], length, slice_get, false};
 ghost use Rattle.snap_search.specs.Kept.{GoesUp, kept_end, step_at, with_step};
 
 use crate::down::Spot;
@@ -45,7 +45,8 @@ pub struct Way {
 impl Way {
     /// No row is kept.
     pub fn none() -> Way
-        ensures { result.steps.items ≡ [] }
+        ensures steps { result.steps.items ≡ [] }
+        ensures stayed { result.stayed ≡ false }
     {
         let mut steps = ArrayVec::from_array_in((), [Step::BLANK; ROOM]);
         steps.clear();
@@ -57,7 +58,8 @@ impl Way {
 
     /// Lets go what was kept.
     pub fn clear(&mut self)
-        ensures { self.new.steps.items ≡ [] }
+        ensures steps { self.new.steps.items ≡ [] }
+        ensures stayed { self.new.stayed ≡ false }
     {
         self.steps.clear();
         self.stayed = false;
@@ -65,7 +67,8 @@ impl Way {
 
     /// Keeps the row from which the way goes on.
     pub(crate) fn meet(&mut self, spot: &Spot)
-        ensures { self.new.steps.items ≡ with_step self.old.steps.items (step_at spot.now) }
+        ensures steps { self.new.steps.items ≡ with_step self.old.steps.items (step_at spot.now) }
+        ensures stayed { self.new.stayed ≡ self.old.stayed }
     {
         self.keep(Step {
             row: spot.row,
@@ -75,7 +78,8 @@ impl Way {
 
     /// Keeps a row. Where there is no room, what was kept before is let go.
     pub fn keep(&mut self, step: Step)
-        ensures { self.new.steps.items ≡ with_step self.old.steps.items step }
+        ensures steps { self.new.steps.items ≡ with_step self.old.steps.items step }
+        ensures stayed { self.new.stayed ≡ self.old.stayed }
     {
         if self.steps.is_full() {
             self.steps.clear();
@@ -93,7 +97,8 @@ impl Way {
     /// The lowest row, which is kept no more, and the one above it, as an end of a way at a row that may have the key.
     /// None where the lowest row is row 0, or the only one.
     pub fn go_up(&mut self) -> Option<Ending>
-        ensures { GoesUp self.old.steps.items self.new.steps.items result }
+        ensures goes { GoesUp self.old.steps.items self.new.steps.items result }
+        ensures stayed { self.new.stayed ≡ self.old.stayed }
     {
         let last = self.steps.pop()?;
         if last.row.is_none() {

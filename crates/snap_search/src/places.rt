@@ -1,5 +1,5 @@
 //! The search for the place of a key, for a write. It keeps the last rows of its way, for the repair behind the write.
-ghost use Rattle.std.specs.Prelude.{◌≡◌, Bool};
+ghost use Rattle.std.specs.Prelude.{◌≡◌, Bool, false};
 ghost use Rattle.snap_prelude.specs.{IsOf, Writing};
 ghost use Rattle.snap_search.specs.{Kept.IsWay, Kept.with_row, Places.Finds, Places.row_at};
 
@@ -55,6 +55,7 @@ pub fn find_for_write<R: Wait>(
         × (pass.old.view.stage ≡ Writing made counted) }
     ensures finds { Finds rows.now.rows pass.old pass.new key result }
     ensures way { IsWay rows.now.rows pass.new.view way.new }
+    ensures stayed { way.new.stayed ≡ false }
 {
     let epoch = load_epoch(rows, pass);
     set_out(rows, pass, key);
@@ -69,7 +70,8 @@ pub fn find_for_write<R: Wait>(
 
 // Keeps the row with the key. At any other place the row is that at which the search stood, which is kept already.
 fn keep_row(way: &mut Way, place: &Place)
-    ensures { way.new.steps.items ≡ with_row place.now way.old.steps.items }
+    ensures steps { way.new.steps.items ≡ with_row place.now way.old.steps.items }
+    ensures stayed { way.new.stayed ≡ way.old.stayed }
 {
     if let Place::Here { row } = *place {
         way.keep(Step {

@@ -36,4 +36,4 @@ returns-clause-way c = let a = c.args.pass.now in let b = c.load_word-word.new.p
     let low = child_low rows a.view s c.link.result c.load_word-word.result step c.link.ensures c.load_word-word.ensures.led in
     way_kept rows d.view c.args.way.now c.keep.new.self (record { row = child; side = c.side_from-side.result })
     (child_step rows a b d.view s (record { row = child; side = c.side_from-side.result }) c.link.result c.load_word-word.result step c.link.ensures c.load_word-word.ensures.pass second.0.mends.reached low c.row_of-child.ensures some)
-    c.keep.ensures (way_stays rows a.view d.view c.args.way.now (looks_on a b d first second).0.mends.reached c.requires.way)
+    c.keep.ensures.steps (way_stays rows a.view d.view c.args.way.now (looks_on a b d first second).0.mends.reached c.requires.way)

@@ -1,4 +1,4 @@
-use Rattle.std.proofs.Common.{[], ap}
+use Rattle.std.proofs.Common.{[], ◌∙◌, ap}
 use Rattle.snap_prelude.specs.{Known}
 use Rattle.snap_search.proofs.{Arriving.finds_end, Keeping.way_above, Working.again_works, Working.still_now}
 use Rattle.snap_search.proofs.endings.find_to_repair.Goals as goal
@@ -19,4 +19,7 @@ returns-clause-finds g c =
 pub returns-clause-way : goal.returns-clause-way
 returns-clause-way g c =
     let d = c.descend-descent in
-    way_above c.args.rows.now.rows d.new.pass.view d.new.way c.keep_above.new.way d.result.place d.result.spot d.ensures.spot c.keep_above.ensures d.ensures.way
+    way_above c.args.rows.now.rows d.new.pass.view d.new.way c.keep_above.new.way d.result.place d.result.spot d.ensures.spot c.keep_above.ensures.steps d.ensures.way
+
+pub returns-clause-stayed : goal.returns-clause-stayed
+returns-clause-stayed g c = c.keep_above.ensures.stayed ∙ c.descend-descent.ensures.stayed
