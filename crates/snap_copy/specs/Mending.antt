@@ -3,7 +3,7 @@
 use Rattle.std.specs.Prelude.{◌≡◌, ◌≤◌, ◌<◌, ℕ, List, ◌++◌, Bool, true, false}
 use Rattle.snap_prelude.specs.{Among, Field, Grows, In, IsBelow, IsKnown, KeepsLasting, KeepsPresent, KeepsReached}
 use Rattle.snap_prelude.specs.{Known, Next, NotesMore, same_copies, Side, times, View, WordNote}
-use Rattle.snap_prelude.specs.{any_notes, any_trail, any_way, any_words}
+use Rattle.snap_search.specs.Prelude.{any_work}
 
 -- the pass with what another view has of repairs. What it has seen stays, since it ends with the
 -- entry of its write, and so does the key of its copies
@@ -11,11 +11,7 @@ abbrev pub mended : Known → View → Known
 mended k w =
     record {
       table = k.table;
-      view = record k.view {
-        trail = any_trail k.view.trail w.trail;
-        way = any_way k.view.way w.way;
-        noted = any_notes k.view.noted w.noted;
-        words = any_words k.view.words w.words;
+      view = record (any_work k.view w) {
         fresh = same_copies k.view.fresh w.fresh;
         drawn = w.drawn;
         holds = w.holds;

@@ -4,8 +4,8 @@ use Rattle.snap_copy.specs.{Mending.NoWord, declared.Wanted.Wanted}
 use Rattle.snap_prelude.specs.{Among, Birth, copied, copies_for, Field, Grows, In, IsCopy, IsKnown}
 use Rattle.snap_prelude.specs.{IsOlder, KeepsLasting, KeepsPresent, KeepsReached, Known, link_field}
 use Rattle.snap_prelude.specs.{Next, NotesMore, removed, SeesMore, Side, View, WordNote}
-use Rattle.snap_search.specs.Prelude.{worked, Works}
-use Rattle.snap_prelude.specs.{any_notes, any_rows, any_trail, any_words}
+use Rattle.snap_search.specs.Prelude.{any_work, worked, Works}
+use Rattle.snap_prelude.specs.{any_rows}
 
 -- the child below the held row is of this epoch already. The pass went on with its work, which left
 -- these notes
@@ -69,15 +69,14 @@ pub record Lacks (rows : ℕ) (old new : Known) (parent : ℕ) (side : Side) : T
   pub works : Works old new more
   pub full : In (Next rows) more
 
--- the pass with what another view has of its knowledge, its rows and its copies
+-- the pass with what another view has of its knowledge, its rows and its copies. It stands where it
+-- stood on its way
 abbrev pub stayed : Known → View → Known
 stayed k w =
     record {
       table = k.table;
-      view = record k.view {
-        trail = any_trail k.view.trail w.trail;
-        noted = any_notes k.view.noted w.noted;
-        words = any_words k.view.words w.words;
+      view = record (any_work k.view w) {
+        way = k.view.way;
         fresh = any_rows k.view.fresh w.fresh;
         drawn = w.drawn;
       };

@@ -6,7 +6,7 @@ pub use Rattle.snap_search.specs.Kept.{GoesUp, GoesUpTo, IsStep, IsWay, step_at,
 pub use Rattle.snap_search.specs.Places.{AllFrom, Births, births_of, Comes, ComesTo, EndsAbsent, EndsAt, EndsFrom}
 pub use Rattle.snap_search.specs.Places.{EndsHere, EndsOlder, EndsShared, Finds, Goes, row_at, WentFrom}
 pub use Rattle.snap_search.specs.Walk.{at_top, Ends, walked, Walks}
-pub use Rattle.snap_search.specs.Work.{IsPresent, IsReached, worked, Works}
+pub use Rattle.snap_search.specs.Work.{any_work, IsPresent, IsReached, worked, Works}
 pub use Rattle.snap_search.specs.declared.down.Spot.{Spot}
 pub use Rattle.snap_search.specs.declared.endings.Ending.{Ending}
 pub use Rattle.snap_search.specs.declared.kept.Step.{Step}

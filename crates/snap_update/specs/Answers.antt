@@ -6,7 +6,8 @@ use Rattle.snap_prelude.specs.{Gate, In, KeepsPresent, KeepsReached, Known, Next
 use Rattle.snap_prelude.specs.{Remove, SeesMore, times, total, Trouble, View, WordNote, Writing}
 use Rattle.snap_model.specs.History.{told}
 use Rattle.snap_steps.specs.declared.view.WordNote.TheVariants.{Left, Birth}
-use Rattle.snap_prelude.specs.{any_notes, any_rows, any_trail, any_way, any_words}
+use Rattle.snap_prelude.specs.{any_rows}
+use Rattle.snap_search.specs.Prelude.{any_work}
 
 -- one more than the value is a word
 abbrev pub FitsWord : Call → Type 0
@@ -14,27 +15,22 @@ FitsWord (Put k v) = v + 1 < 2 ^ 64
 FitsWord (Remove k) = Unit {0}
 
 -- the pass with all that another view has, but that a write leaves: its table and number, its
--- clones and uses, the numbers that it speaks for, its change and its tries
+-- clones and uses, the numbers that it speaks for, its change and its tries, and the rows that a
+-- clone found worn out
 abbrev pub written : Known → View → Known
 written k w =
     record {
       table = k.table;
-      view =
-          record k.view {
-            stage = w.stage;
-            seen = w.seen;
-            mine = w.mine;
-            noted = any_notes k.view.noted w.noted;
-            drawn = w.drawn;
-            outworn = w.outworn;
-            holds = w.holds;
-            words = any_words k.view.words w.words;
-            trail = any_trail k.view.trail w.trail;
-            fresh = any_rows k.view.fresh w.fresh;
-            way = any_way k.view.way w.way;
-            heights = w.heights;
-            debt = w.debt;
-          };
+      view = record (any_work k.view w) {
+        stage = w.stage;
+        seen = w.seen;
+        mine = w.mine;
+        drawn = w.drawn;
+        holds = w.holds;
+        fresh = any_rows k.view.fresh w.fresh;
+        heights = w.heights;
+        debt = w.debt;
+      };
     }
 
 -- the call is a put of a key that the map after this history lacks
