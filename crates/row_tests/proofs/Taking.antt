@@ -131,8 +131,8 @@ may_turn_root rows a b c e side raised of m owes t u count =
       zero = u.firm.held 0 t.zero;
       only = λ r nz n1 n2 n3. u.only r nz nz n2 n3;
     } in record {
-      top = t.top;
       taken = taken;
+      top = t.top;
       owes = all.debt ∙ owes;
       rotates = may_rotate rows a c (turn_at e.parent e.side e.child side raised) taken (all.debt ∙ owes) count;
     }

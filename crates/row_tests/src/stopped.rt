@@ -4,7 +4,7 @@ ghost use Rattle.snap_prelude.specs.{IsOf, Nothing};
 ghost use Rattle.row_tests.specs.Stopping.{HoldsRoot, HoldsTop, HoldsTurn, IsUnlinkable, IsWritingPass};
 ghost use Rattle.snap_search.specs.Prelude.{IsWay};
 ghost use Rattle.snap_shape.specs.Grips.{IsEdge, IsWithin};
-ghost use Rattle.snap_shape.specs.Shapes.{Rotates, Unlinks};
+ghost use Rattle.snap_shape.specs.Shapes.{MayRotate, Rotates, Unlinks};
 ghost use Rattle.snap_table.specs.{Calls.IsIdle, Ready.IsReadyTo};
 ghost use Rattle.snap_update.specs.Answers.{FitsWord};
 
