@@ -23,7 +23,7 @@ loop-line-preserved g c =
           reply more c.run.new.self text refl refl refl (c.in_ok-reply.ensures.exported ∙ ap (λ (x : List ℕ). x ++ text_of c.loop-line.seat.job.session line.command) c.new-text.ensures.items) c.in_ok-reply.ensures.serves c.in_ok-reply.ensures.fits c.run.ensures.tables c.run.ensures.uses;
       of = c.in_ok-add.ensures.answer v.answered v.of;
       named = named_on cs i line.command (let a = v.answered in a.exports) text l is v.named;
-      keeps = keeps_on cs i line.command c.args.seat.now.desk c.loop-line.seat.desk c.add.new.self text l is v.keeps c.add.ensures.goes_on c.add.ensures.none;
+      keeps = keeps_on cs i line.command c.args.seat.now.desk c.loop-line.seat.desk c.add.new.self text l is v.keeps c.add.ensures.goes_on (λ e. (c.add.ensures.none e).0);
     }
 
 pub run-requires-clause-can : goal.run-requires-clause-can
@@ -56,4 +56,4 @@ add-requires-clause-few g c =
 pub returns-in_err-add-clause-keeps : goal.returns-in_err-add-clause-keeps
 returns-in_err-add-clause-keeps g c =
     let i = c.loop-line.line-index in let script = c.args.seat.now.job.script.now in let line = c.line-item.result in let v = c.loop-line.invariant in
-    keeps_on (script_commands script) i line.command c.args.seat.now.desk c.loop-line.seat.desk c.add.new.self c.run.new.out.items (command_within script i c.loop-line-test.true) (command_at script i line c.loop-line-test.true c.line-item.is) v.keeps c.add.ensures.goes_on c.add.ensures.none
+    keeps_on (script_commands script) i line.command c.args.seat.now.desk c.loop-line.seat.desk c.add.new.self c.run.new.out.items (command_within script i c.loop-line-test.true) (command_at script i line c.loop-line-test.true c.line-item.is) v.keeps c.add.ensures.goes_on (λ e. (c.add.ensures.none e).0)
