@@ -39,13 +39,11 @@ odd_keys = record { kept = 1; gone = 3; read = 5 }
 abbrev pub even_keys : Keys
 even_keys = record { kept = 2; gone = 4; read = 6 }
 
--- one thread's work is done: these are its calls, and its last put is read behind it
+-- one thread's work is done: these are its calls, and it has read its own last put
 pub record HasWorked (table : Laid) (pass : Known) (keys : Keys) (done : Worked) : Type 0 where
   pub ready : IsReadyTo table pass.view.who 4 done.pass
   pub made : calls_made done.pass ≡ calls_made pass
       ++ Put keys.kept 10 ∷ Put keys.gone 20 ∷ Remove keys.gone ∷ Put keys.read 30 ∷ []
-  pub before : Known
-  pub reads : ReadsBehindPut before done.pass keys.read 30 done.answer
   pub own : ReadsOwn done.pass keys.read 30 done.answer
 
 -- a clone answers as the map stood when it was made: behind all that the pass had seen and done,
