@@ -1,6 +1,6 @@
-use Rattle.std.proofs.Common.{ap}
-use Rattle.snap_shape.proofs.Begun.{ends_turn, key_still, stamps_still}
-use Rattle.snap_prelude.specs.{Known}
+use Rattle.std.proofs.Common.{◌+◌, ap, refl}
+use Rattle.snap_shape.proofs.{Begun.across_read, Begun.ends_turn, Begun.key_still, Begun.stamps_still, Shaping.stamp_known}
+use Rattle.snap_prelude.specs.{cleared, Known}
 use Rattle.row_tests.proofs.stopped.rotate_slowly.Goals as goal
 
 pub begin_turn-middle-requires : goal.begin_turn-middle-requires
@@ -17,6 +17,13 @@ link_parent-requires-clause-key g c = let b = c.begin_turn-middle in key_still c
 
 pub link_parent-requires-clause-stamps : goal.link_parent-requires-clause-stamps
 link_parent-requires-clause-stamps g c = let b = c.begin_turn-middle in stamps_still c.args.pass.now b.new.pass c.link_lowered.new.pass c.link_raised.new.pass c.args.turn.now c.args.turn.now.row.key b.result b.ensures.begun c.link_lowered.ensures c.link_raised.ensures
+
+pub clear_shrinking-requires-clause-stamp : goal.clear_shrinking-requires-clause-stamp
+clear_shrinking-requires-clause-stamp g c =
+    let b = c.begin_turn-middle in let t = c.args.turn.now in let turned : Known = c.link_parent.new.pass in
+    let after : Known = record { table = turned.table; view = cleared turned.view t.row.row (t.row.stamp + 2 + 2) } in
+    stamp_known c.args.pass.now (across_read c.args.pass.now t b.result) b.new.pass c.link_lowered.new.pass c.link_raised.new.pass turned after t.parent t.parent_side t.row t.side t.raised b.result t.row.key
+    (record { load = refl; mark = b.ensures.begun.begun; lower = c.link_lowered.ensures; lift = c.link_raised.ensures; raise = c.link_parent.ensures.pass; clear = refl })
 
 pub returns-clause-turned : goal.returns-clause-turned
 returns-clause-turned g c =
