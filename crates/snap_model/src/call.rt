@@ -4,7 +4,7 @@
 pub type Key = u64;
 
 /// A call that changes a map.
-#[derive(Clone, Copy, Debug, PartialEq, Eq)]
+#[derive(Clone, Copy)]
 pub enum Call {
     /// Sets the key to the value.
     Put { key: Key, value: u64 },
@@ -13,7 +13,7 @@ pub enum Call {
 }
 
 /// A call in a table's history: who made it, and the value that stood at its key before.
-#[derive(Clone, Copy, Debug, PartialEq, Eq)]
+#[derive(Clone, Copy)]
 pub struct Entry {
     pub who: u32,
     pub call: Call,

@@ -90,7 +90,7 @@ pub enum Command {
 }
 
 /// The reply to a command.
-#[derive(Clone, Copy, Debug, PartialEq, Eq)]
+#[derive(Clone, Copy, Debug)]
 pub enum Reply {
     /// A put set a key that was absent.
     New,

@@ -1,30 +1,32 @@
-//! A command as a derived `Debug` shows it. Commands with the same fields share a function, since the proof of one
-//! function over all the fields takes twenty times as long.
+//! A command as a derived `Debug` shows it: its word, and then those fields that it has. Each field
+//! is found by a function of its own, since the proof of one function over all commands with their
+//! fields takes ten times as long.
 use crate::{Command, Key, Name};
 use std::fmt;
-use std::fmt::{Formatter, Write};
+use std::fmt::{Debug, DebugStruct, Formatter, Write};
 
 impl fmt::Debug for Command {
     fn fmt<W: Write>(&self, f: &mut Formatter<W>) -> fmt::Result {
-        let word = word_of(self);
-        match self {
-            Command::Table { name } => name_alone(f, word, "name", name),
-            Command::Load { file } => name_alone(f, word, "file", file),
-            Command::Remove { key } | Command::Get { key } => key_alone(f, word, *key),
-            Command::First { slot } | Command::Last { slot } | Command::Depth { slot } =>
-                slot_alone(f, word, *slot),
-            Command::Snap { slot, name } | Command::Forget { slot, name } => slot_and_name(
-                f, word, *slot, name,
-            ),
-            Command::See { slot, key }
-            | Command::Floor { slot, key }
-            | Command::Lower { slot, key }
-            | Command::Ceiling { slot, key }
-            | Command::Higher { slot, key } => slot_and_key(f, word, *slot, *key),
-            Command::Put { key, value } => key_and_value(f, word, *key, *value),
-            Command::Count { slot, lo, hi } => slot_and_bounds(f, word, *slot, (*lo, *hi)),
-            Command::Export { slot, lo, hi, file } => export(f, *slot, (*lo, *hi), file),
-        }
+        let mut shown = f.debug_struct(word_of(self));
+        show_numbers(&mut shown, self);
+        show(&mut shown, "name", name_in(self));
+        show(&mut shown, "file", file_in(self));
+        shown.finish()
+    }
+}
+
+fn show_numbers<W: Write>(shown: &mut DebugStruct<'_, W>, command: &Command) {
+    show(shown, "slot", slot_in(command));
+    show(shown, "key", key_in(command));
+    show(shown, "value", value_in(command));
+    show(shown, "lo", lo_in(command));
+    show(shown, "hi", hi_in(command));
+}
+
+/// Shows a field, if the command has it.
+fn show<W: Write, T: Debug + Drop>(shown: &mut DebugStruct<'_, W>, field: &str, found: Option<T>) {
+    if let Some(value) = found {
+        shown.field(field, &value);
     }
 }
 
@@ -50,77 +52,71 @@ fn word_of(command: &Command) -> &'static str {
     }
 }
 
-fn name_alone<W: Write>(
-    f: &mut Formatter<W>,
-    command: &str,
-    field: &str,
-    name: &Name,
-) -> fmt::Result {
-    f.debug_struct(command).field(field, name).finish()
+fn slot_in(command: &Command) -> Option<u8> {
+    match command {
+        Command::Snap { slot, .. }
+        | Command::Forget { slot, .. }
+        | Command::See { slot, .. }
+        | Command::First { slot }
+        | Command::Last { slot }
+        | Command::Floor { slot, .. }
+        | Command::Lower { slot, .. }
+        | Command::Ceiling { slot, .. }
+        | Command::Higher { slot, .. }
+        | Command::Count { slot, .. }
+        | Command::Depth { slot }
+        | Command::Export { slot, .. } => Some(*slot),
+        _ => None,
+    }
 }
 
-fn key_alone<W: Write>(f: &mut Formatter<W>, command: &str, key: Key) -> fmt::Result {
-    f.debug_struct(command).field("key", &key).finish()
+fn key_in(command: &Command) -> Option<Key> {
+    match command {
+        Command::Put { key, .. }
+        | Command::Remove { key }
+        | Command::Get { key }
+        | Command::See { key, .. }
+        | Command::Floor { key, .. }
+        | Command::Lower { key, .. }
+        | Command::Ceiling { key, .. }
+        | Command::Higher { key, .. } => Some(*key),
+        _ => None,
+    }
 }
 
-fn slot_alone<W: Write>(f: &mut Formatter<W>, command: &str, slot: u8) -> fmt::Result {
-    f.debug_struct(command).field("slot", &slot).finish()
+fn value_in(command: &Command) -> Option<u64> {
+    match command {
+        Command::Put { value, .. } => Some(*value),
+        _ => None,
+    }
 }
 
-fn slot_and_name<W: Write>(
-    f: &mut Formatter<W>,
-    command: &str,
-    slot: u8,
-    name: &Name,
-) -> fmt::Result {
-    f.debug_struct(command)
-        .field("slot", &slot)
-        .field("name", name)
-        .finish()
+fn lo_in(command: &Command) -> Option<Key> {
+    match command {
+        Command::Count { lo, .. } | Command::Export { lo, .. } => Some(*lo),
+        _ => None,
+    }
 }
 
-fn slot_and_key<W: Write>(f: &mut Formatter<W>, command: &str, slot: u8, key: Key) -> fmt::Result {
-    f.debug_struct(command)
-        .field("slot", &slot)
-        .field("key", &key)
-        .finish()
+fn hi_in(command: &Command) -> Option<Key> {
+    match command {
+        Command::Count { hi, .. } | Command::Export { hi, .. } => Some(*hi),
+        _ => None,
+    }
 }
 
-fn key_and_value<W: Write>(
-    f: &mut Formatter<W>,
-    command: &str,
-    key: Key,
-    value: u64,
-) -> fmt::Result {
-    f.debug_struct(command)
-        .field("key", &key)
-        .field("value", &value)
-        .finish()
+fn name_in(command: &Command) -> Option<&Name> {
+    match command {
+        Command::Table { name } | Command::Snap { name, .. } | Command::Forget { name, .. } => Some(
+            name,
+        ),
+        _ => None,
+    }
 }
 
-fn slot_and_bounds<W: Write>(
-    f: &mut Formatter<W>,
-    command: &str,
-    slot: u8,
-    bounds: (Key, Key),
-) -> fmt::Result {
-    f.debug_struct(command)
-        .field("slot", &slot)
-        .field("lo", &bounds.0)
-        .field("hi", &bounds.1)
-        .finish()
-}
-
-fn export<W: Write>(
-    f: &mut Formatter<W>,
-    slot: u8,
-    bounds: (Key, Key),
-    file: &Name,
-) -> fmt::Result {
-    f.debug_struct("Export")
-        .field("slot", &slot)
-        .field("lo", &bounds.0)
-        .field("hi", &bounds.1)
-        .field("file", file)
-        .finish()
+fn file_in(command: &Command) -> Option<&Name> {
+    match command {
+        Command::Load { file } | Command::Export { file, .. } => Some(file),
+        _ => None,
+    }
 }
