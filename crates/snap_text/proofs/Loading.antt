@@ -12,11 +12,11 @@ use Rattle.csv.specs.declared.parser.State.TheVariants as st
 use Rattle.csv.specs.declared.record.ByteRecord.{ByteRecord}
 use Rattle.snap_text.specs.declared.fault.PairsFault.{PairsFault}
 use Rattle.snap_text.specs.declared.fault.PairsFault.TheVariants as fault
-use Rattle.snap_text.specs.Csv.{AddsRow, IsReading, IsNoPair}
+use Rattle.snap_text.specs.Csv.{AddsRow, IsBelowHeader, IsHeader, IsNoHeader, IsNoPair, IsReading}
 use Rattle.snap_text.specs.Loads.{Fields, both, is_header, load_of, most_load_bytes, most_pairs, pair_of, pairs_from, records_of, under_header}
 use Rattle.snap_text.specs.Numbers.{FitsValue, greatest_key, number_of}
 use Rattle.snap_text.proofs.Costs.{Begin, all_pay, first_records, size, sizes}
-use Rattle.snap_text.proofs.Records.{Rows, known, one_more_row}
+use Rattle.snap_text.proofs.Records.{Rows, known, no_more_row, one_more_row}
 
 -- these records are the header and these pairs
 pub record AreHeaderAndPairs (rows : List Fields) (pairs : List (ℕ × ℕ)) : Type 0 where
@@ -77,7 +77,7 @@ pub not_too_long : (bytes : List ℕ) → length bytes ≤ most_load_bytes → l
 unfolding load_of
 not_too_long bytes few = rw (le-ltb most_load_bytes (length bytes) few) refl
 
-pub no_header : (bytes : List ℕ) (first : Fields) → Begin (first ∷ []) (records_of bytes) → is_header first ≡ false → under_header (records_of bytes) ≡ Err (fault.Record 1)
+no_header : (bytes : List ℕ) (first : Fields) → Begin (first ∷ []) (records_of bytes) → is_header first ≡ false → under_header (records_of bytes) ≡ Err (fault.Record 1)
 no_header bytes first begin other = ap under_header begin.is ∙ rw other refl
 
 pub refused : (bytes : List ℕ) (rows : List Fields) (pairs : List (ℕ × ℕ)) (row : Fields) (number : ℕ) → length bytes ≤ most_load_bytes
@@ -153,16 +153,36 @@ few_pairs bytes rows pairs s ys few h reached =
     let pair = pairs_size h.below pairs h.same in
     elim paid.paid [ inl cost ↦ omega (arith, cost, short, few, all, header, pair) | inr last ↦ omega (arith, last.2, short, few, all, header, pair) ]
 
--- a step below the header: a record's pair is added, or the record is refused
-abbrev pub Steps : Rows → Rows → Result ByteRecord Error → Type 0
-Steps a b row = RowStep known (owned_rows_reader a) (owned_rows_reader b) (owned_rows_left b) (Some row)
-    × FlexibleStep (owned_rows_reader a) (owned_rows_reader b) (Some row)
+-- a step of a reader
+abbrev pub Steps : Rows → Rows → Option (Result ByteRecord Error) → Type 0
+Steps a b row = RowStep known (owned_rows_reader a) (owned_rows_reader b) (owned_rows_left b) row
+    × FlexibleStep (owned_rows_reader a) (owned_rows_reader b) row
 
+-- the first step: the header is read, or its record is refused
+pub header_read : (text : List ℕ) (a b : Rows) (first : Option (Result ByteRecord Error)) → IsReading text [] a → Steps a b first → IsHeader first → IsBelowHeader text b
+header_read text a b None h steps is = absurd is
+header_read text a b (Some (Err error)) h steps is = absurd is
+header_read text a b (Some (Ok found)) h steps is =
+    let read = steps.0 in
+    record { header = fields_of found; is_first = is; reading = one_more_row text [] a b (fields_of found) h read.0 read.1 read.2 steps.1 }
+
+pub header_refused : (bytes : List ℕ) (a b : Rows) (first : Option (Result ByteRecord Error)) (why : PairsFault)
+    → IsReading (strip_bom bytes) [] a → Steps a b first → IsNoHeader first why → under_header (records_of bytes) ≡ Err why
+header_refused bytes a b None why h steps is = ap under_header (no_more_row (strip_bom bytes) [] a b h steps.0) ∙ ap Err (sym is)
+header_refused bytes a b (Some (Err error)) why h steps is = absurd is
+header_refused bytes a b (Some (Ok found)) why h steps is =
+    let fields = fields_of found in
+    let read = steps.0 in
+    let one = one_more_row (strip_bom bytes) [] a b fields h read.0 read.1 read.2 steps.1 in
+    let begin = first_records default_config (strip_bom bytes) (fields ∷ []) (reader_state (owned_rows_reader b)) one.bytes one.reached in
+    no_header bytes fields begin is.0 ∙ ap Err (sym is.1)
+
+-- a step below the header: a record's pair is added, or the record is refused
 abbrev pub AllFit : List (ℕ × ℕ) → Type 0
 AllFit pairs = All (λ (pair : ℕ × ℕ). FitsValue pair.1) pairs
 
 pub pair_added : (text : List ℕ) (rows : List Fields) (pairs new : List (ℕ × ℕ)) (a b : Rows) (row : Result ByteRecord Error)
-    → IsReading text rows a → AreHeaderAndPairs rows pairs → AllFit pairs → Steps a b row → AddsRow row pairs new
+    → IsReading text rows a → AreHeaderAndPairs rows pairs → AllFit pairs → Steps a b (Some row) → AddsRow row pairs new
     → (more : List Fields) × IsReading text more b × AreHeaderAndPairs more new × AllFit new
 pair_added text rows pairs new a b (Err error) h are fit steps adds = absurd adds
 pair_added text rows pairs new a b (Ok found) h are fit steps adds =
@@ -176,7 +196,7 @@ pair_added text rows pairs new a b (Ok found) h are fit steps adds =
     )
 
 pub pair_refused : (bytes : List ℕ) (rows : List Fields) (pairs : List (ℕ × ℕ)) (a b : Rows) (row : Result ByteRecord Error) (why : PairsFault)
-    → length bytes ≤ most_load_bytes → IsReading (strip_bom bytes) rows a → AreHeaderAndPairs rows pairs → Steps a b row → IsNoPair row (length pairs + 2) why
+    → length bytes ≤ most_load_bytes → IsReading (strip_bom bytes) rows a → AreHeaderAndPairs rows pairs → Steps a b (Some row) → IsNoPair row (length pairs + 2) why
     → load_of bytes ≡ Err why
 pair_refused bytes rows pairs a b (Err error) why few h are steps is = absurd is
 pair_refused bytes rows pairs a b (Ok found) why few h are steps is =

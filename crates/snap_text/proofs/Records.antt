@@ -1,6 +1,6 @@
 -- What one step of a reader does.
-use Rattle.std.proofs.Common.{◌≡◌, ◌<◌, ◌++◌, ◌∙◌, ℕ, List, [], ◌∷◌, true, false, Option, Some, Result, Ok, Err, sym, inl, true≢false}
-use Rattle.std.specs.Prelude.{IfErr}
+use Rattle.std.proofs.Common.{◌≡◌, ◌<◌, ◌++◌, ◌∙◌, ℕ, List, [], ◌∷◌, true, false, Option, Some, None, Result, Ok, Err, sym, inl, true≢false}
+use Rattle.std.specs.Prelude.{IfErr, IfSome}
 use Rattle.std.specs.Borrow.{Bor}
 use Rattle.csv.specs.Reading.{ExplainsRead, ReadRecord, RowStep, default_config, error_kind, is_flexible, owned_rows_left, owned_rows_reader, records}
 use Rattle.csv.specs.declared.error.Error.{Error}
@@ -55,7 +55,8 @@ fails_of_memory text rows a b (kind.Utf8 pos err) h because = absurd (true≢fal
 fails_of_memory text rows a b (kind.Serialize text') h because = because
 fails_of_memory text rows a b (kind.Deserialize pos err) h because = because
 
-pub fails_alone_of_memory : (text : List ℕ) (rows : List Fields) (a b : Rows) (row : Result ByteRecord Error) → IsReading text rows a
-    → RowStep known (owned_rows_reader a) (owned_rows_reader b) (owned_rows_left b) (Some row) → IfErr row (λ error. IsOfMemory (error_kind error))
-fails_alone_of_memory text rows a b (Ok found) h step = tt
-fails_alone_of_memory text rows a b (Err error) h step = fails_of_memory text rows a b (error_kind error) h step
+pub fails_alone_of_memory : (text : List ℕ) (rows : List Fields) (a b : Rows) (row : Option (Result ByteRecord Error)) → IsReading text rows a
+    → RowStep known (owned_rows_reader a) (owned_rows_reader b) (owned_rows_left b) row → IfSome row (λ found. IfErr found (λ error. IsOfMemory (error_kind error)))
+fails_alone_of_memory text rows a b None h step = tt
+fails_alone_of_memory text rows a b (Some (Ok found)) h step = tt
+fails_alone_of_memory text rows a b (Some (Err error)) h step = fails_of_memory text rows a b (error_kind error) h step

@@ -1,5 +1,5 @@
 -- How this crate uses `csv`.
-use Rattle.std.specs.Prelude.{◌≡◌, ◌<◌, ◌++◌, ℕ, List, [], ◌∷◌, Some, None, Result, Ok, Err, true, false}
+use Rattle.std.specs.Prelude.{◌≡◌, ◌<◌, ◌++◌, ℕ, List, [], ◌∷◌, Option, Some, None, Result, Ok, Err, true, false}
 use Rattle.std.specs.Borrow.{Bor}
 use Rattle.csv.specs.Reading.{Reached, Ready, default_config, is_flexible, owned_rows_left, owned_rows_reader, reader_config, reader_state, reader_trim, source_of}
 use Rattle.csv.specs.Writing.{default_writer, fields_written, has_written, writer_setup}
@@ -48,6 +48,17 @@ pub record IsBelowHeader (text : List ℕ)
   pub header : Fields
   pub is_first : is_header header ≡ true
   pub reading : IsReading text (header ∷ []) reader
+
+-- the first record is the header
+abbrev pub IsHeader : Option (Result ByteRecord Error) → Type 0
+IsHeader (Some (Ok row)) = is_header (fields_of row) ≡ true
+IsHeader _ = ⊥
+
+-- the first record is another one, or there is none
+abbrev pub IsNoHeader : Option (Result ByteRecord Error) → PairsFault → Type 0
+IsNoHeader None why = why ≡ fault.Record 1
+IsNoHeader (Some (Ok row)) why = (is_header (fields_of row) ≡ false) × (why ≡ fault.Record 1)
+IsNoHeader (Some (Err error)) why = ⊥
 
 -- the pair of the record was added behind the others
 abbrev pub AddsRow : Result ByteRecord Error → List (ℕ × ℕ) → List (ℕ × ℕ) → Type 0

@@ -1,4 +1,4 @@
-use Rattle.std.proofs.Common.{◌∙◌, ◌∷◌, [], rules, inl, inr}
+use Rattle.std.proofs.Common.{◌∙◌, ◌∷◌, [], Some, rules, inl, inr}
 use Rattle.std.proofs.lemmas.Result.{err_from_is_err_and}
 use Rattle.csv.specs.Reading.{owned_rows_reader, reader_state, strip_bom}
 use Rattle.snap_text.proofs.Loading.{accepted, few_pairs, not_too_long, only_header, pair_added, pair_refused, too_long}
@@ -34,7 +34,7 @@ pub add_pair-requires-clause-memory : goal.add_pair-requires-clause-memory
 add_pair-requires-clause-memory c =
     let r = c.loop-row.invariant.reading in
     let step = c.in-Some.ensures.steps r.goes_on r.keeps_blanks in
-    fails_alone_of_memory (strip_bom c.args.bytes.now) c.loop-row.invariant.rows c.loop-row.row-iterator c.next.new.self c.in-Some.row r (step.0 r.is_ready)
+    fails_alone_of_memory (strip_bom c.args.bytes.now) c.loop-row.invariant.rows c.loop-row.row-iterator c.next.new.self (Some c.in-Some.row) r (step.0 r.is_ready)
 
 pub returns-in_err-add_pair-clause-refused : goal.returns-in_err-add_pair-clause-refused
 returns-in_err-add_pair-clause-refused c =

@@ -1,37 +1,28 @@
-use Rattle.std.proofs.Common.{◌∙◌, [], ◌∷◌, ap, inr, sym}
-use Rattle.csv.specs.Reading.{default_config, owned_rows_reader, reader_state, strip_bom}
-use Rattle.csv.specs.Records.{fields_of}
-use Rattle.snap_text.specs.Loads.{under_header}
-use Rattle.snap_text.proofs.Costs.{first_records}
-use Rattle.snap_text.proofs.Loading.{no_header}
-use Rattle.snap_text.proofs.Records.{no_more_row, one_more_row}
+use Rattle.std.proofs.Common.{[], inl, inr}
+use Rattle.std.proofs.lemmas.Result.{err_from_is_err_and}
+use Rattle.csv.specs.Reading.{strip_bom}
+use Rattle.snap_text.proofs.Loading.{header_read, header_refused}
+use Rattle.snap_text.proofs.Records.{fails_alone_of_memory}
 use Rattle.snap_text.proofs.load.rows_below_header.Goals as goal
 
-pub returns-in-None-clause-refused : goal.returns-in-None-clause-refused
-returns-in-None-clause-refused c =
+pub check_header-requires : goal.check_header-requires
+check_header-requires c =
     let r = c.rows_of-rows.ensures in
-    let step = c.in-None.ensures.steps r.goes_on r.keeps_blanks in
-    inr (ap under_header (no_more_row (strip_bom c.args.bytes.now) [] c.rows_of-rows.result c.next.new.self r (step.0 r.is_ready)))
+    let step = c.next-first.ensures.steps r.goes_on r.keeps_blanks in
+    fails_alone_of_memory (strip_bom c.args.bytes.now) [] c.rows_of-rows.result c.next-first.new.self c.next-first.result r (step.0 r.is_ready)
 
-pub returns-then-not-is_header-clause-refused : goal.returns-then-not-is_header-clause-refused
-returns-then-not-is_header-clause-refused c =
+pub returns-in_err-check_header-clause-refused : goal.returns-in_err-check_header-clause-refused
+returns-in_err-check_header-clause-refused c =
     let r = c.rows_of-rows.ensures in
-    let step = c.in-Some-Ok.ensures.steps r.goes_on r.keeps_blanks in
-    let row = rw c.in-Some-Ok.field-0-is at step.0 r.is_ready in
-    let same = rw c.in-Some-Ok.field-0-is at step.3 in
-    let first = fields_of c.in-Some-Ok.header in
-    let one = one_more_row (strip_bom c.args.bytes.now) [] c.rows_of-rows.result c.next.new.self first r row.0 row.1 row.2 same in
-    inr (no_header c.args.bytes.now first (first_records default_config (strip_bom c.args.bytes.now) (first ∷ []) (reader_state (owned_rows_reader c.next.new.self)) one.bytes one.reached) (sym c.is_header.ensures ∙ c.if-not-is_header.true))
+    let step = c.next-first.ensures.steps r.goes_on r.keeps_blanks in
+    let p = err_from_is_err_and c.from_residual.result c.from_residual.ensures.1 in
+    rw (p.1, p.2) (elim c.in_err-check_header.ensures.refused [
+      | inl memory ↦ inl memory
+      | inr is ↦ inr (header_refused c.args.bytes.now c.rows_of-rows.result c.next-first.new.self c.next-first.result c.in_err-check_header.field-0.0 r (step.0 r.is_ready, step.3) is)
+    ])
 
 pub returns-clause-below : goal.returns-clause-below
 returns-clause-below c =
     let r = c.rows_of-rows.ensures in
-    let step = c.in-Some-Ok.ensures.steps r.goes_on r.keeps_blanks in
-    let row = rw c.in-Some-Ok.field-0-is at step.0 r.is_ready in
-    let same = rw c.in-Some-Ok.field-0-is at step.3 in
-    let first = fields_of c.in-Some-Ok.header in
-    record {
-      header = first;
-      is_first = sym c.is_header.ensures ∙ c.if-not-is_header.false;
-      reading = one_more_row (strip_bom c.args.bytes.now) [] c.rows_of-rows.result c.next.new.self first r row.0 row.1 row.2 same;
-    }
+    let step = c.next-first.ensures.steps r.goes_on r.keeps_blanks in
+    header_read (strip_bom c.args.bytes.now) c.rows_of-rows.result c.next-first.new.self c.next-first.result r (step.0 r.is_ready, step.3) c.in_ok-check_header.ensures.header
