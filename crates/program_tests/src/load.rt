@@ -1,7 +1,8 @@
 use crate::asserts::is;
 use crate::cases::{Reads, hold};
 use snap_text::{PairsFault, read_pairs};
-use std::test::Fail;
+use std::alloc::{AllocError, Global};
+use std::process::Abort;
 
 #[test]
 fn reads_pairs_in_their_order(rt: HostRuntime) {
@@ -52,19 +53,23 @@ fn refuses_the_first_bad_record(rt: HostRuntime) {
     is(&rt, count, 19);
 }
 
-#[test]
-fn reads_as_many_bytes_as_there_may_be(rt: HostRuntime) -> Result<(), Fail> {
-    let mut text = Vec::from_slice(rt.alloc(), b"key,value\n1,2\n")?;
+/// As many bytes as there may be, of which the third record is bad.
+fn longest(alloc: Global) -> Result<Vec<u8>, AllocError> {
+    let mut text = Vec::from_slice(alloc, b"key,value\n1,2\n")?;
     text.resize(16_777_214, b'\n')?;
     text.extend_from_slice(b"\n3")?;
+    Ok(text)
+}
+
+fn is_refused<R: Abort>(rt: &R, alloc: Global, text: &[u8], want: PairsFault) {
+    is(rt, read_pairs(alloc, text).err(), Some(want));
+}
+
+#[test]
+fn reads_as_many_bytes_as_there_may_be(rt: HostRuntime) {
+    let mut text = longest(rt.alloc()).expect(&rt, "no memory");
     is(&rt, text.len(), 16_777_216);
-    let bad = PairsFault::Record { number: 3 };
-    is(&rt, read_pairs(rt.alloc(), &text).err(), Some(bad));
-    text.extend_from_slice(b"\n")?;
-    is(
-        &rt,
-        read_pairs(rt.alloc(), &text).err(),
-        Some(PairsFault::TooLong),
-    );
-    Ok(())
+    is_refused(&rt, rt.alloc(), &text, PairsFault::Record { number: 3 });
+    text.extend_from_slice(b"\n").expect(&rt, "no memory");
+    is_refused(&rt, rt.alloc(), &text, PairsFault::TooLong);
 }

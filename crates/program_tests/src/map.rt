@@ -26,18 +26,23 @@ fn puts_and_removals_answer_what_was_there(rt: HostRuntime) {
     is(&rt, map.get(5), None);
 }
 
+/// Of a map with the keys 0, 2, 9 and the greatest.
+fn counts_its_pairs<R: Abort>(rt: &R, map: &PlainMap) {
+    is(rt, map.len(), 4);
+    holds(rt, !map.is_empty());
+    is(rt, map.range(9, 1).len(), 0);
+    is(rt, map.count(2, 2), 1);
+    is(rt, map.count(3, 8), 0);
+}
+
 #[test]
 fn pairs_stand_by_rising_keys(rt: HostRuntime) {
     let pairs = [(9, 1), (2, 2), (u64::MAX, 3), (0, 4), (2, 5)];
     let map = map_of(&rt, rt.alloc(), &pairs);
     let all = [(0, 4), (2, 5), (9, 1), (u64::MAX, 3)];
     are_pairs(&rt, map.range(0, u64::MAX), &all);
-    is(&rt, map.len(), 4);
-    holds(&rt, !map.is_empty());
-    are_pairs(&rt, map.range(1, 9), &all[1..3]);
-    is(&rt, map.range(9, 1).len(), 0);
-    is(&rt, map.count(2, 2), 1);
-    is(&rt, map.count(3, 8), 0);
+    are_pairs(&rt, map.range(1, 9), &[(2, 5), (9, 1)]);
+    counts_its_pairs(&rt, &map);
 }
 
 #[test]

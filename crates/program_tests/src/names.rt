@@ -1,6 +1,12 @@
 use crate::asserts::{is, times};
 use crate::cases::{Reads, hold};
 use snap_text::{is_file, is_name};
+use std::alloc::Global;
+use std::process::Abort;
+
+fn is_long_name<R: Abort>(rt: &R, alloc: Global, count: usize) -> bool {
+    is_name(&times(rt, alloc, b'_', count))
+}
 
 #[test]
 fn tells_names(rt: HostRuntime) {
@@ -21,8 +27,12 @@ fn tells_names(rt: HostRuntime) {
         \xc3\xa9~false",
     );
     is(&rt, count, 10);
-    is(&rt, is_name(&times(&rt, rt.alloc(), b'_', 32)), true);
-    is(&rt, is_name(&times(&rt, rt.alloc(), b'_', 33)), false);
+    is(&rt, is_long_name(&rt, rt.alloc(), 32), true);
+    is(&rt, is_long_name(&rt, rt.alloc(), 33), false);
+}
+
+fn is_long_file<R: Abort>(rt: &R, alloc: Global, count: usize) -> bool {
+    is_file(&times(rt, alloc, b'a', count))
 }
 
 #[test]
@@ -48,6 +58,6 @@ fn tells_file_names(rt: HostRuntime) {
         a:~false",
     );
     is(&rt, count, 14);
-    is(&rt, is_file(&times(&rt, rt.alloc(), b'a', 200)), true);
-    is(&rt, is_file(&times(&rt, rt.alloc(), b'a', 201)), false);
+    is(&rt, is_long_file(&rt, rt.alloc(), 200), true);
+    is(&rt, is_long_file(&rt, rt.alloc(), 201), false);
 }

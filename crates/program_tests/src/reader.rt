@@ -1,10 +1,9 @@
-use crate::asserts::{is, is_at, is_text_at};
+use crate::asserts::{holds, is, is_at, is_text_at};
 use crate::cases::{Reads, hold, shown};
 use snap_model::Command;
-use snap_text::{LineKind, ScriptFault, read_script};
-use std::alloc::Global;
+use snap_text::{Line, LineKind, ScriptFault, read_script};
+use std::alloc::{AllocError, Global};
 use std::process::Abort;
-use std::test::Fail;
 
 #[test]
 fn reads_commands(rt: HostRuntime) {
@@ -149,65 +148,56 @@ fn refuses_bad_names_and_clones(rt: HostRuntime) {
     is(&rt, count, 34);
 }
 
-/// The lines `clone c0`, `clone c1` and so on.
-fn clones(alloc: Global, count: u32) -> Result<String, Fail> {
+/// The lines `clone c0`, `clone c1` and so on, and then more lines.
+fn clones_and(alloc: Global, count: u32, more: &str) -> Result<String, AllocError> {
     let mut text = String::new(alloc);
     for n in 0..count {
-        write!(text, "clone c{n}\n")?;
+        let line = format!(in alloc; "clone c{n}\n")?;
+        text.push_str(line.as_str())?;
     }
+    text.push_str(more)?;
     Ok(text)
 }
 
 /// Reads so many clones and then more lines, and compares the first fault.
-fn keeps<R: Abort>(
-    rt: &R,
-    alloc: Global,
-    count: u32,
-    more: &str,
-    want: Option<(u32, LineKind)>,
-) -> Result<(), Fail> {
-    let mut text = clones(alloc, count)?;
-    text.push_str(more)?;
+fn keeps<R: Abort>(rt: &R, alloc: Global, count: u32, more: &str, want: Option<(u32, LineKind)>) {
+    let text = clones_and(alloc, count, more).expect(rt, "no memory");
     let found = read_script(alloc, text.as_bytes()).err();
     let want = want.map(|(line, kind)| ScriptFault::Line { line, kind });
     is_at(rt, &(count, more), found, want);
-    Ok(())
 }
 
 #[test]
-fn keeps_64_clones(rt: HostRuntime) -> Result<(), Fail> {
+fn keeps_64_clones(rt: HostRuntime) {
     let alloc = rt.alloc();
-    keeps(&rt, alloc, 64, "", None)?;
-    keeps(&rt, alloc, 65, "", Some((65, LineKind::TooManyClones)))?;
-    keeps(
-        &rt,
-        alloc,
-        64,
-        "clone c5\n",
-        Some((65, LineKind::CloneTaken)),
-    )?;
-    keeps(&rt, alloc, 64, "drop c5\nclone d\nsee d 1\n", None)?;
+    keeps(&rt, alloc, 64, "", None);
+    keeps(&rt, alloc, 65, "", Some((65, LineKind::TooManyClones)));
+    let taken = Some((65, LineKind::CloneTaken));
+    keeps(&rt, alloc, 64, "clone c5\n", taken);
+    keeps(&rt, alloc, 64, "drop c5\nclone d\nsee d 1\n", None);
     let late = Some((67, LineKind::TooManyClones));
-    keeps(&rt, alloc, 64, "drop c5\nclone d\nclone e\n", late)?;
+    keeps(&rt, alloc, 64, "drop c5\nclone d\nclone e\n", late);
     let gone = Some((66, LineKind::NoSuchClone));
-    keeps(&rt, alloc, 64, "drop c63\nsee c63 1\n", gone)
+    keeps(&rt, alloc, 64, "drop c63\nsee c63 1\n", gone);
+}
+
+/// The slot of the clone that the last line makes.
+fn last_slot(lines: &[Line]) -> Option<u8> {
+    match &lines.last()?.command {
+        Command::Snap { slot, .. } => Some(*slot),
+        _ => None,
+    }
 }
 
 #[test]
-fn gives_the_lowest_free_slot(rt: HostRuntime) -> Result<(), Fail> {
-    let mut text = clones(rt.alloc(), 64)?;
-    text.push_str("drop c9\ndrop c5\nclone d\n")?;
-    match read_script(rt.alloc(), text.as_bytes()) {
-        Ok(script) => {
-            let last = script.lines().last().map(|line| &line.command);
-            assert!(rt; matches!(last, Some(Command::Snap { slot: 5, .. })));
-        }
-        Err(fault) => assert!(rt; false, "{fault}"),
-    }
-    Ok(())
+fn gives_the_lowest_free_slot(rt: HostRuntime) {
+    let more = "drop c9\ndrop c5\nclone d\n";
+    let text = clones_and(rt.alloc(), 64, more).expect(&rt, "no memory");
+    let script = read_script(rt.alloc(), text.as_bytes()).expect(&rt, "a script");
+    is(&rt, last_slot(script.lines()), Some(5));
 }
 
-fn many(alloc: Global, first: &[u8], line: &[u8], count: u32) -> Result<Vec<u8>, Fail> {
+fn many(alloc: Global, first: &[u8], line: &[u8], count: u32) -> Result<Vec<u8>, AllocError> {
     let mut text = Vec::from_slice(alloc, first)?;
     for _ in 0..count {
         text.extend_from_slice(line)?;
@@ -215,52 +205,41 @@ fn many(alloc: Global, first: &[u8], line: &[u8], count: u32) -> Result<Vec<u8>,
     Ok(text)
 }
 
-#[test]
-fn reads_as_many_lines_as_there_may_be(rt: HostRuntime) -> Result<(), Fail> {
-    let text = many(rt.alloc(), b"", b"get 1\n", 100_000)?;
-    match read_script(rt.alloc(), &text) {
-        Ok(script) => {
-            is(&rt, script.lines().len(), 100_000);
-            assert!(rt;
-                script
-                    .lines()
-                    .iter()
-                    .all(|line| matches!(line.command, Command::Get { key: 1 }))
-            );
-            is(
-                &rt,
-                script.lines().last().map(|line| line.line),
-                Some(100_000),
-            );
-        }
-        Err(fault) => assert!(rt; false, "{fault}"),
-    }
-    Ok(())
+fn are_gets_of_one(lines: &[Line]) -> bool {
+    lines
+        .iter()
+        .all(|line| matches!(line.command, Command::Get { key: 1 }))
 }
 
-fn is_shown<R: Abort>(
-    rt: &R,
-    alloc: Global,
-    first: &[u8],
-    line: &[u8],
-    count: u32,
-    want: &str,
-) -> Result<(), Fail> {
-    let text = many(alloc, first, line, count)?;
-    let found = shown(alloc, Reads::Script, &text)?;
+fn last_number(lines: &[Line]) -> Option<u32> {
+    Some(lines.last()?.line)
+}
+
+#[test]
+fn reads_as_many_lines_as_there_may_be(rt: HostRuntime) {
+    let text = many(rt.alloc(), b"", b"get 1\n", 100_000).expect(&rt, "no memory");
+    let script = read_script(rt.alloc(), &text).expect(&rt, "a script");
+    let lines = script.lines();
+    is(&rt, lines.len(), 100_000);
+    holds(&rt, are_gets_of_one(lines));
+    is(&rt, last_number(lines), Some(100_000));
+}
+
+fn is_shown<R: Abort>(rt: &R, alloc: Global, first: &[u8], line: &[u8], count: u32, want: &str) {
+    let text = many(alloc, first, line, count).expect(rt, "no memory");
+    let found = shown(alloc, Reads::Script, &text).expect(rt, "no memory");
     is_text_at(rt, &(first, line, count), found.as_bytes(), want.as_bytes());
-    Ok(())
 }
 
 #[test]
-fn is_too_long_before_a_bad_line(rt: HostRuntime) -> Result<(), Fail> {
+fn is_too_long_before_a_bad_line(rt: HostRuntime) {
     let alloc = rt.alloc();
-    is_shown(&rt, alloc, b"", b"get 1\n", 100_001, "too long")?;
-    is_shown(&rt, alloc, b"bad\n", b"\n", 100_000, "too long")?;
-    is_shown(&rt, alloc, b"bad\n", b"\n", 99_999, "line 1: unknown word")?;
-    is_shown(&rt, alloc, b"bad", b"\n", 100_000, "line 1: unknown word")?;
-    is_shown(&rt, alloc, b"#", b" ", 4_194_303, "")?;
-    is_shown(&rt, alloc, b"#", b" ", 4_194_304, "too long")
+    is_shown(&rt, alloc, b"", b"get 1\n", 100_001, "too long");
+    is_shown(&rt, alloc, b"bad\n", b"\n", 100_000, "too long");
+    is_shown(&rt, alloc, b"bad\n", b"\n", 99_999, "line 1: unknown word");
+    is_shown(&rt, alloc, b"bad", b"\n", 100_000, "line 1: unknown word");
+    is_shown(&rt, alloc, b"#", b" ", 4_194_303, "");
+    is_shown(&rt, alloc, b"#", b" ", 4_194_304, "too long");
 }
 
 #[test]

@@ -17,63 +17,60 @@ fn add<R: Abort>(rt: &R, alloc: Global, command: Command, reply: Reply, text: &m
     reply_line(alloc, &command, &reply, text).expect(rt, "no memory")
 }
 
-#[test]
-fn writes_a_line_for_each_reply(rt: HostRuntime) {
-    let mut text = Vec::new(rt.alloc());
+fn add_of_puts<R: Abort>(rt: &R, alloc: Global, text: &mut Vec<u8>) {
     add(
-        &rt,
-        rt.alloc(),
+        rt,
+        alloc,
         Command::Put { key: 5, value: 50 },
         Reply::New,
-        &mut text,
+        text,
     );
     add(
-        &rt,
-        rt.alloc(),
+        rt,
+        alloc,
         Command::Put { key: 5, value: 50 },
         Reply::Old { value: 0 },
-        &mut text,
+        text,
     );
     add(
-        &rt,
-        rt.alloc(),
+        rt,
+        alloc,
         Command::Put { key: 5, value: 50 },
         Reply::Full,
-        &mut text,
+        text,
     );
+}
+
+fn add_of_removals<R: Abort>(rt: &R, alloc: Global, text: &mut Vec<u8>) {
     add(
-        &rt,
-        rt.alloc(),
+        rt,
+        alloc,
         Command::Remove { key: 5 },
         Reply::Old {
             value: 18_446_744_073_709_551_614,
         },
-        &mut text,
+        text,
     );
+    add(rt, alloc, Command::Remove { key: 5 }, Reply::Absent, text);
+    add(rt, alloc, Command::Remove { key: 5 }, Reply::Full, text);
+}
+
+#[test]
+fn writes_a_line_for_each_reply(rt: HostRuntime) {
+    let alloc = rt.alloc();
+    let mut text = Vec::new(alloc);
+    add_of_puts(&rt, alloc, &mut text);
+    add_of_removals(&rt, alloc, &mut text);
     add(
         &rt,
-        rt.alloc(),
-        Command::Remove { key: 5 },
-        Reply::Absent,
-        &mut text,
-    );
-    add(
-        &rt,
-        rt.alloc(),
-        Command::Remove { key: 5 },
-        Reply::Full,
-        &mut text,
-    );
-    add(
-        &rt,
-        rt.alloc(),
+        alloc,
         Command::Get { key: 5 },
         Reply::Value { value: 50 },
         &mut text,
     );
     add(
         &rt,
-        rt.alloc(),
+        alloc,
         Command::Get { key: 5 },
         Reply::Absent,
         &mut text,
@@ -82,111 +79,120 @@ fn writes_a_line_for_each_reply(rt: HostRuntime) {
     is_text(&rt, &text, want);
 }
 
-#[test]
-fn writes_the_replies_of_clones_and_files(rt: HostRuntime) {
-    let mut text = Vec::new(rt.alloc());
+fn add_of_questions<R: Abort>(rt: &R, alloc: Global, text: &mut Vec<u8>) {
     add(
-        &rt,
-        rt.alloc(),
-        Command::Table {
-            name: name(&rt, rt.alloc(), "main"),
-        },
-        Reply::Using,
-        &mut text,
-    );
-    add(
-        &rt,
-        rt.alloc(),
-        Command::Snap {
-            slot: 0,
-            name: name(&rt, rt.alloc(), "c1"),
-        },
-        Reply::Snapped,
-        &mut text,
-    );
-    add(
-        &rt,
-        rt.alloc(),
+        rt,
+        alloc,
         Command::See { slot: 0, key: 5 },
         Reply::Value { value: 50 },
-        &mut text,
+        text,
     );
     add(
-        &rt,
-        rt.alloc(),
+        rt,
+        alloc,
         Command::Floor { slot: 0, key: 5 },
         Reply::Pair { key: 4, value: 40 },
-        &mut text,
+        text,
     );
     add(
-        &rt,
-        rt.alloc(),
+        rt,
+        alloc,
         Command::Count {
             slot: 0,
             lo: 1,
             hi: 9,
         },
         Reply::Count { n: 7 },
-        &mut text,
+        text,
     );
     add(
-        &rt,
-        rt.alloc(),
+        rt,
+        alloc,
         Command::Depth { slot: 0 },
         Reply::Depth {
             depth: 3,
             pairs: 7,
             settled: true,
         },
-        &mut text,
+        text,
     );
     add(
-        &rt,
-        rt.alloc(),
+        rt,
+        alloc,
         Command::Depth { slot: 0 },
         Reply::Depth {
             depth: 4,
             pairs: 7,
             settled: false,
         },
-        &mut text,
+        text,
     );
+}
+
+fn add_of_files<R: Abort>(rt: &R, alloc: Global, text: &mut Vec<u8>) {
     add(
-        &rt,
-        rt.alloc(),
+        rt,
+        alloc,
         Command::Export {
             slot: 0,
             lo: 1,
             hi: 9,
-            file: name(&rt, rt.alloc(), "a.csv"),
+            file: name(rt, alloc, "a.csv"),
         },
         Reply::Exported { n: 7 },
-        &mut text,
+        text,
     );
     add(
-        &rt,
-        rt.alloc(),
+        rt,
+        alloc,
         Command::Load {
-            file: name(&rt, rt.alloc(), "a.csv"),
+            file: name(rt, alloc, "a.csv"),
         },
         Reply::Loaded { n: 12 },
-        &mut text,
+        text,
     );
     add(
-        &rt,
-        rt.alloc(),
+        rt,
+        alloc,
         Command::Load {
-            file: name(&rt, rt.alloc(), "a.csv"),
+            file: name(rt, alloc, "a.csv"),
         },
         Reply::FullAfter { n: 3 },
+        text,
+    );
+}
+
+#[test]
+fn writes_the_replies_of_clones_and_files(rt: HostRuntime) {
+    let alloc = rt.alloc();
+    let mut text = Vec::new(alloc);
+    add(
+        &rt,
+        alloc,
+        Command::Table {
+            name: name(&rt, alloc, "main"),
+        },
+        Reply::Using,
         &mut text,
     );
     add(
         &rt,
-        rt.alloc(),
+        alloc,
+        Command::Snap {
+            slot: 0,
+            name: name(&rt, alloc, "c1"),
+        },
+        Reply::Snapped,
+        &mut text,
+    );
+    add_of_questions(&rt, alloc, &mut text);
+    add_of_files(&rt, alloc, &mut text);
+    add(
+        &rt,
+        alloc,
         Command::Forget {
             slot: 0,
-            name: name(&rt, rt.alloc(), "c1"),
+            name: name(&rt, alloc, "c1"),
         },
         Reply::Forgotten,
         &mut text,
