@@ -38,7 +38,6 @@ impl<'m, 'a> Given<'m, 'a> {
 }
 
 /// Reads words without the program's own name. They are misused where the command doesn't take them.
-#[tactic(auto, unfolding(crate::specs::CommandLine::misuse, crate::specs::CommandLine::arguments_of))]
 pub fn match_words<'a>(alloc: Global, words: &'a [String]) -> Result<ArgMatches<'a>, WordsFault>
     ensures taken { IfOk result (λ _. misuse (map string_bytes words.entry.now) ≡ []) }
     ensures arguments { IfOk result
