@@ -25,14 +25,14 @@ pub enum Limit {
 }
 
 /// A line of a script that passes a limit.
-#[derive(Clone, Copy, Debug, PartialEq, Eq)]
+#[derive(Clone, Copy)]
 pub struct Passed {
     pub line: u32,
     pub limit: Limit,
 }
 
 /// The tables and the load files of scripts, each in the order in which it is first named.
-#[derive(Debug, Drop)]
+#[derive(Drop)]
 pub struct Needs {
     pub tables: NameList,
     pub loads: NameList,
@@ -89,7 +89,7 @@ fn limit_stop(alloc: Global, script: &Name, passed: Passed) -> Stop
 }
 
 // What the lines so far need, and the files that no later line may export to.
-#[derive(Debug, Drop)]
+#[derive(Drop)]
 struct Walk {
     tables: NameList,
     loads: NameList,
@@ -179,7 +179,7 @@ fn has(names: &[Name], name: &Name) -> bool
 }
 
 // The files that are written to, of which there may be many.
-#[derive(Debug, Drop)]
+#[derive(Drop)]
 struct Taken {
     names: BTreeSet<String>,
 }

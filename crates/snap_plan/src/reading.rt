@@ -16,7 +16,7 @@ use std::marker::Model;
 const PIECE: u64 = 65_536;
 
 /// A file that was read. Contracts see its name, and its bytes unless it is too long.
-#[derive(Debug, Drop)]
+#[derive(Drop)]
 pub struct Input {
     pub name: Name,
     pub bytes: Option<Vec<u8>>,
@@ -32,7 +32,7 @@ impl Model for Input {
 }
 
 /// Why a file could not be read whole.
-#[derive(Clone, Copy, Debug, PartialEq, Eq)]
+#[derive(Clone, Copy)]
 enum ReadFault {
     /// The shelf failed.
     Failed,

@@ -18,21 +18,20 @@ use Rattle.snap_plan.proofs.Walking.{exports_new, few_needs}
 use Rattle.snap_plan.proofs.accepting.accept_scripts.Goals as goal
 
 pub read_loads-requires : goal.read_loads-requires
-read_loads-requires g c = subst (AllPairs (λ (a b : List ℕ). a ≢ b)) (sym (c.list-6.ensures ∙ c.in_ok-tables.ensures.loads)) (loads_differ (all_commands c.list-5.result.now))
+read_loads-requires g c = subst (AllPairs (λ (a b : List ℕ). a ≢ b)) (sym (c.list-2.ensures ∙ c.in_ok-tables.ensures.loads)) (loads_differ (all_commands c.list.result.now))
 
 pub returns-in_err-loads-clause-stops : goal.returns-in_err-loads-clause-stops
 returns-in_err-loads-clause-stops g c =
     let files = g.S.Shelf.files c.args.shelf.now in
-    let names = c.args.names in
+    let names = c.args.names.now in
     let last = c.args.last in
     let scripts : List (List Line) = c.in_ok-scripts.scripts in
-    let named = c.list-6.result.now in
-    let is_named : named ≡ loads_named (all_commands scripts) = c.list-6.ensures ∙ c.in_ok-tables.ensures.loads ∙ ap (λ (ss : List (List Line)). loads_named (all_commands ss)) c.list-5.ensures in
-    let taken : c.list-4.result.now ≡ outputs names last = c.list-4.ensures ∙ c.in_ok-outputs.ensures ∙ ap (λ (ns : List (List ℕ)). outputs ns last) c.list-2.ensures in
+    let named = c.list-2.result.now in
+    let is_named : named ≡ loads_named (all_commands scripts) = c.list-2.ensures ∙ c.in_ok-tables.ensures.loads ∙ ap (λ (ss : List (List Line)). loads_named (all_commands ss)) c.list.ensures in
     let none : passed_in (outputs names last) names scripts ≡ None =
-    ap (λ (ts : List (List ℕ)). passed_in ts names scripts) (sym taken) ∙ ap (λ (ns : List (List ℕ)). passed_in c.list-4.result.now ns scripts) (sym c.list-3.ensures)
-    ∙ ap (λ (ss : List (List Line)). passed_in c.list-4.result.now c.list-3.result.now ss) (sym c.list-5.ensures) ∙ c.in_ok-tables.ensures.within in
-    let read = subst (λ (ns : List (List ℕ)). IfTold files (λ f. scripts_in f ns ≡ Ok scripts)) c.list.ensures c.in_ok-scripts.ensures.scripts in
+    ap (λ (ns : List (List ℕ)). passed_in (outputs ns last) ns scripts) (sym c.list-names.ensures)
+    ∙ ap (λ (ss : List (List Line)). passed_in (outputs c.list-names.result.now last) c.list-names.result.now ss) (sym c.list.ensures) ∙ c.in_ok-tables.ensures.within in
+    let read = subst (λ (ns : List (List ℕ)). IfTold files (λ f. scripts_in f ns ≡ Ok scripts)) c.list-names.ensures c.in_ok-scripts.ensures.scripts in
     let stop = c.in_err-loads.field-0.0 in
     let rose = Rose (g.S.Shelf.read_faults c.read_scripts.new.shelf) (g.S.Shelf.read_faults c.read_loads.new.shelf) in
     let stops = subst (λ fs. StopsBy fs (λ f. loads_in f named) (λ f. named) rose stop) c.in_ok-scripts.ensures.only_reads.same_files c.in_err-loads.ensures.stops in
@@ -42,21 +41,20 @@ returns-in_err-loads-clause-stops g c =
 
 pub returns-clause-runnable : goal.returns-clause-runnable
 returns-clause-runnable g c =
-    let names = c.args.names in
+    let names = c.args.names.now in
     let last = c.args.last in
     let scripts : List (List Line) = c.in_ok-scripts.scripts in
     let tables = c.in_ok-tables.field-0.tables in
     let loads = c.in_ok-loads.loads in
-    let each : length scripts ≡ length names = c.in_ok-scripts.ensures.each ∙ ap (λ (ns : List (List ℕ)). length ns) c.list.ensures in
-    let is_tables : tables ≡ tables_named (all_commands scripts) = c.in_ok-tables.ensures.tables ∙ ap (λ (ss : List (List Line)). tables_named (all_commands ss)) c.list-5.ensures in
-    let is_named = c.list-6.ensures ∙ c.in_ok-tables.ensures.loads ∙ ap (λ (ss : List (List Line)). loads_named (all_commands ss)) c.list-5.ensures in
+    let each : length scripts ≡ length names = c.in_ok-scripts.ensures.each ∙ ap (λ (ns : List (List ℕ)). length ns) c.list-names.ensures in
+    let is_tables : tables ≡ tables_named (all_commands scripts) = c.in_ok-tables.ensures.tables ∙ ap (λ (ss : List (List Line)). tables_named (all_commands ss)) c.list.ensures in
+    let is_named = c.list-2.ensures ∙ c.in_ok-tables.ensures.loads ∙ ap (λ (ss : List (List Line)). loads_named (all_commands ss)) c.list.ensures in
     let is_loads : map (λ file. file.0) loads ≡ loads_named (all_commands scripts) = c.in_ok-loads.ensures.names ∙ is_named in
-    let taken : c.list-4.result.now ≡ outputs names last = c.list-4.ensures ∙ c.in_ok-outputs.ensures ∙ ap (λ (ns : List (List ℕ)). outputs ns last) c.list-2.ensures in
     let none : passed_in (outputs names last) names scripts ≡ None =
-    ap (λ (ts : List (List ℕ)). passed_in ts names scripts) (sym taken) ∙ ap (λ (ns : List (List ℕ)). passed_in c.list-4.result.now ns scripts) (sym c.list-3.ensures)
-    ∙ ap (λ (ss : List (List Line)). passed_in c.list-4.result.now c.list-3.result.now ss) (sym c.list-5.ensures) ∙ c.in_ok-tables.ensures.within in
+    ap (λ (ns : List (List ℕ)). passed_in (outputs ns last) ns scripts) (sym c.list-names.ensures)
+    ∙ ap (λ (ss : List (List Line)). passed_in (outputs c.list-names.result.now last) c.list-names.result.now ss) (sym c.list.ensures) ∙ c.in_ok-tables.ensures.within in
     let few = few_needs (outputs names last) names scripts (sym each) none in
-    let replies : c.in_ok-replies.replies ≡ map reply_name names = c.in_ok-replies.ensures ∙ ap (map reply_name) c.list-7.ensures in
+    let replies : c.in_ok-replies.replies ≡ map reply_name names = c.in_ok-replies.ensures ∙ ap (map reply_name) c.list-names.ensures in
     record {
       some_scripts = subst (λ n. 1 ≤ n) (sym each) c.requires.some_scripts;
       few_scripts = subst (λ n. n ≤ 32) (sym each) c.requires.few_scripts;

@@ -2,7 +2,7 @@ use Rattle.std.proofs.Common.{◌+◌, sym, subst}
 use Rattle.snap_io.specs.Causes.{Rose}
 use Rattle.snap_plan.specs.Reading.{IsRead}
 use Rattle.snap_plan.specs.Stops.{IsUnread}
-use Rattle.snap_plan.proofs.Inputs.{HasRead, read_more, unread_stops}
+use Rattle.snap_plan.proofs.Inputs.{HasRead, read_more, read_names, read_whole, unread_stops}
 use Rattle.snap_plan.proofs.Stopping.{if_err, read_on, rose_behind}
 use Rattle.snap_plan.proofs.reading.read_all.Goals as goal
 
@@ -27,3 +27,11 @@ loop-name-preserved g c =
           (read_more files c.args.most c.args.names.now c.loop-name.name-index c.loop-name.inputs.items c.name-item.result c.in_ok-input.input was.read c.loop-name-test.true c.name-item.is told.named read);
       only_reads = read_on was.only_reads told.only_reads;
     }
+
+pub returns-clause-inputs : goal.returns-clause-inputs
+returns-clause-inputs g c =
+    read_whole (g.S.Shelf.files c.args.shelf.now) c.args.most c.args.names.now c.loop-name.name-index c.loop-name.inputs.items c.loop-name.invariant.read c.loop-name-test.false
+
+pub returns-clause-names : goal.returns-clause-names
+returns-clause-names g c =
+    read_names (g.S.Shelf.files c.args.shelf.now) c.args.most c.args.names.now c.loop-name.name-index c.loop-name.inputs.items c.loop-name.invariant.read c.loop-name-test.false
