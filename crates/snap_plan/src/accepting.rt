@@ -88,9 +88,11 @@ fn accept_scripts<S: Shelf>(
     requires few_rows { rows ≤ most_rows }
     requires outputs { has_twice (outputs names.now last) ≡ false }
     ensures plan { IfOk result
-        (λ plan. IfTold (S.files shelf.old) (λ f. plan_of_scripts rows last names.now f ≡ Ok plan)) }
+        (λ plan. IfTold (S.files shelf.old)
+        (λ f. plan_of_scripts rows last names.now f ≡ Ok plan)) }
     ensures asked { IfOk result
-        (λ plan. IsForJob (record { rows = rows; last = last; work = Work.Scripts names.now }) plan) }
+        (λ plan. IsForJob
+        (record { rows = rows; last = last; work = Work.Scripts names.now }) plan) }
     ensures runnable { IfOk result IsRunnable }
 
     ensures past_words { IfErr result IsPastWords }
