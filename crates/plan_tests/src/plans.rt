@@ -2,22 +2,30 @@ use crate::asserts::{is, is_text_at, words_in};
 use snap_io::{MemShelf, Shelf};
 use snap_model::OutOfMemory;
 use snap_plan::{Plan, Stop, accept};
-use std::alloc::Global;
+use std::alloc::{AllocError, Global};
 use std::process::Abort;
 
 // Files, each a name, `:` and its text, in which `/` stands for the line's end; `;` ends each.
 fn shelf_with(alloc: Global, files: &str) -> Result<MemShelf, OutOfMemory> {
     let mut shelf = MemShelf::new(alloc);
     for file in files.split_inclusive(';') {
-        let (name, text) = file.split_once(':').unwrap_or((file, ""));
-        let text = text.strip_suffix(';').unwrap_or(text);
-        let mut bytes = Vec::new(alloc);
-        for byte in text.as_bytes() {
-            bytes.push(if *byte == b'/' { b'\n' } else { *byte })?;
-        }
-        shelf.add(name, bytes.as_slice())?;
+        add_file(alloc, &mut shelf, file.strip_suffix(';').unwrap_or(file))?;
     }
     Ok(shelf)
+}
+
+fn add_file(alloc: Global, shelf: &mut MemShelf, file: &str) -> Result<(), OutOfMemory> {
+    let (name, text) = file.split_once(':').unwrap_or((file, ""));
+    let bytes = bytes_of(alloc, text)?;
+    shelf.add(name, bytes.as_slice())
+}
+
+fn bytes_of(alloc: Global, text: &str) -> Result<Vec<u8>, AllocError> {
+    let mut bytes = Vec::new(alloc);
+    for byte in text.as_bytes() {
+        bytes.push(if *byte == b'/' { b'\n' } else { *byte })?;
+    }
+    Ok(bytes)
 }
 
 // The rows, the lines of each script, and the names of tables and load files.
