@@ -4,75 +4,60 @@ ghost use Rattle.std.specs.Prelude.{◌≡◌, Bool};
 ghost use Rattle.snap_prelude.specs.{IsOf, Writing};
 
 use crate::asserts::is;
-use crate::stopped::put_seven;
+use crate::tables::{SEVEN, open_for_one, put_all};
 use snap_epoch::enter;
 use snap_search::{Ending, Way, find_to_repair};
 use snap_stamp::Key;
 use snap_steps::{Pass, Rows};
-use std::alloc::{AllocError, Global};
+use std::alloc::Global;
 use std::process::Abort;
 use std::sync::Wait;
-use std::test::Fail;
 
-fn pair(alloc: Global, end: &Ending) -> Result<String, AllocError> {
-    format!(in alloc; " {} below {}", end.row.number(), end.above.number())
+// The numbers of a row and of the one above it.
+type Pair = (u32, u32);
+
+fn pair_of(end: &Ending) -> Pair {
+    (end.row.number(), end.above.number())
 }
 
-// Where the way of the key ends, and the rows from there up, each with the row above it.
-fn ends<R: Wait>(
-    rows: &Rows,
-    rt: &R,
-    alloc: Global,
-    pass: &mut Pass,
-    key: Key,
-) -> Result<String, AllocError>
+fn next_pair(way: &mut Way) -> Option<Pair> {
+    let end = way.go_up()?;
+    Some(pair_of(&end))
+}
+
+// Where the way of the key ends, and the rows from there up.
+fn pairs_of<R: Wait>(rows: &Rows, rt: &R, pass: &mut Pass, key: Key) -> [Option<Pair>; 5]
     requires table { IsOf pass.old rows.now }
     requires writing { (made : Bool) × (counted : Bool)
         × (pass.old.view.stage ≡ Writing made counted) }
 {
     let mut way = Way::none();
     let end = find_to_repair(rows, rt, pass, key, &mut way);
-    let mut text = pair(alloc, &end)?;
-    for _ in 0..4u64 {
-        if let Some(next) = way.go_up() {
-            text.push_str(pair(alloc, &next)?.as_str())?;
-        }
-    }
-    Ok(text)
-}
-
-fn ends_so<R: Abort + Wait>(
-    rows: &Rows,
-    rt: &R,
-    alloc: Global,
-    pass: &mut Pass,
-    key: Key,
-    want: &str,
-)
-    requires table { IsOf pass.old rows.now }
-    requires writing { (made : Bool) × (counted : Bool)
-        × (pass.old.view.stage ≡ Writing made counted) }
-{
-    let found = ends(rows, rt, alloc, pass, key).expect(rt, "no memory");
-    assert_eq!(rt; found.as_str(), want);
+    [
+        Some(pair_of(&end)),
+        next_pair(&mut way),
+        next_pair(&mut way),
+        next_pair(&mut way),
+        next_pair(&mut way),
+    ]
 }
 
 // In a new table of the seven keys.
-fn ends_in_seven<R: Abort + Wait>(rt: &R, alloc: Global, key: Key, want: &str) -> Result<(), Fail> {
-    let (rows, mut passes) = Rows::open(alloc, 7, 1)?;
-    let mut p = passes.pop().expect(rt, "no pass");
-    is(rt, put_seven(&rows, rt, &mut p), true);
-    enter(&rows, rt, &mut p);
-    ends_so(&rows, rt, alloc, &mut p, key, want);
-    Ok(())
+fn pairs_in_seven<R: Abort + Wait>(rt: &R, alloc: Global, key: Key) -> [Option<Pair>; 5] {
+    let (rows, mut pass) = open_for_one(rt, alloc, 7);
+    put_all(&rows, rt, &mut pass, SEVEN);
+    enter(&rows, rt, &mut pass);
+    pairs_of(&rows, rt, &mut pass, key)
 }
 
 #[test]
-fn a_search_keeps_the_rows_above_the_key(rt: HostRuntime) -> Result<(), Fail> {
-    ends_in_seven(&rt, rt.alloc(), 50, " 5 below 6 6 below 4 4 below 0")
+fn a_search_keeps_the_rows_above_the_key(rt: HostRuntime) {
+    let want = [Some((5, 6)), Some((6, 4)), Some((4, 0)), None, None];
+    is(&rt, pairs_in_seven(&rt, rt.alloc(), 50), want);
 }
 
 #[test]
-fn a_search_keeps_the_rows_above_a_gap(rt: HostRuntime) -> Result<(), Fail> {
-    ends_in_seven(&rt, rt.alloc(), 25, " 3 below 2 2 below 4 4 below 0")
+fn a_search_keeps_the_rows_above_a_gap(rt: HostRuntime) {
+    let want = [Some((3, 2)), Some((2, 4)), Some((4, 0)), None, None];
+    is(&rt, pairs_in_seven(&rt, rt.alloc(), 25), want);
 }

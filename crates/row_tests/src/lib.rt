@@ -18,11 +18,15 @@ mod kept;
 #[cfg(test)]
 mod locks;
 #[cfg(test)]
+mod reads;
+#[cfg(test)]
 mod searches;
 #[cfg(test)]
 mod stamps;
 #[cfg(test)]
 mod stopped;
+#[cfg(test)]
+mod tables;
 #[cfg(test)]
 mod waits;
 #[cfg(test)]

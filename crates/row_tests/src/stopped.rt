@@ -8,14 +8,16 @@ ghost use Rattle.snap_shape.specs.Shapes.{MayRotate, Rotates, Unlinks};
 ghost use Rattle.snap_table.specs.{Calls.IsIdle, Ready.IsReadyTo};
 ghost use Rattle.snap_update.specs.Answers.{FitsWord};
 
-use crate::asserts::is;
+use crate::asserts::{holds, is};
 use crate::grips::{take_root, take_routing, take_top_turn, take_turn};
+use crate::reads::reads_find;
+use crate::tables::{SEVEN, open_with, put_all};
 use crate::waits::{comes_free, comes_held};
 use snap_epoch::{enter, leave};
 use snap_locks::unlock;
 use snap_model::Call;
 use snap_repair::repair;
-use snap_search::{Busy, Way, get, try_get};
+use snap_search::Way;
 use snap_shape::{Edge, Turn, begin_turn, end_turn, rotate};
 use snap_stamp::{Key, RowNo};
 use snap_steps::{
@@ -24,76 +26,30 @@ use snap_steps::{
 };
 use snap_table::make_call;
 use snap_update::write;
-use std::alloc::{AllocError, Global};
+use std::alloc::Global;
 use std::process::Abort;
 use std::sync::Wait;
-use std::test::Fail;
 use std::thread;
+use std::thread::Threads;
 
-// What `try_get` answers of a key. Where it has an answer, `get` has the same.
-fn answer<R: Abort + Wait>(
-    rows: &Rows,
-    rt: &R,
-    alloc: Global,
-    pass: &mut Pass,
-    key: Key,
-) -> Result<String, AllocError>
-    requires { IsOf pass.old rows.now }
-    ensures { IsOf pass.new rows.now }
-{
-    let found = match try_get(rows, pass, key) {
-        Ok(found) => found,
-        Err(Busy { left, entered }) => return format!(in alloc; " busy {left} {entered}"),
-    };
-    is(rt, get(rows, rt, pass, key), found);
-    match found {
-        Some(value) => format!(in alloc; " {value}"),
-        None => format!(in alloc; " none"),
-    }
-}
+const BELOW_IS_BUSY: &str =
+    "5~none|10~10|20~20|30~30|35~none|40~40|50~7 of 8|60~7 of 8|65~7 of 8|70~7 of 8|75~7 of 8";
 
-fn answers<R: Abort + Wait>(
-    rows: &Rows,
-    rt: &R,
-    alloc: Global,
-    pass: &mut Pass,
-) -> Result<String, AllocError>
-    requires { IsOf pass.old rows.now }
-    ensures { IsOf pass.new rows.now }
-{
-    let mut text = String::new(alloc);
-    for key in "5 10 20 30 35 40 50 60 65 70 75".split_whitespace() {
-        let key = key.parse::<u64>().unwrap_or(0);
-        let word = answer(rows, rt, alloc, pass, key)?;
-        text.push_str(word.as_str())?;
-    }
-    Ok(text)
-}
+const LOWERED_IS_BUSY: &str =
+    "5~none|10~10|20~20|30~30|35~none|40~40|50~7 of 8|60~7 of 8|65~7 of 8|70~70|75~none";
 
-// Reads of the seven keys of the table, and of others, answer so.
-fn reads_find<R: Abort + Wait>(rows: &Rows, rt: &R, alloc: Global, pass: &mut Pass, want: &str)
-    requires { IsOf pass.old rows.now }
-    ensures { IsOf pass.new rows.now }
-{
-    let found = answers(rows, rt, alloc, pass).expect(rt, "no memory");
-    assert_eq!(rt; found.as_str(), want);
-}
+const ALL_ANSWER: &str = "5~none|10~10|20~20|30~30|35~none|40~40|50~50|60~60|65~none|70~70|75~none";
 
-const BELOW_IS_BUSY: &str = " none 10 20 30 none 40 busy 7 8 busy 7 8 busy 7 8 busy 7 8 busy 7 8";
+const UNLINKED_IS_BUSY: &str =
+    "5~none|10~10|20~20|30~7 of 8|35~7 of 8|40~40|50~50|60~60|65~none|70~70|75~none";
 
-const LOWERED_IS_BUSY: &str = " none 10 20 30 none 40 busy 7 8 busy 7 8 busy 7 8 70 none";
-
-const ALL_ANSWER: &str = " none 10 20 30 none 40 50 60 none 70 none";
-
-const UNLINKED_IS_BUSY: &str = " none 10 20 busy 7 8 busy 7 8 40 50 60 none 70 none";
-
-const REMOVED_IS_NONE: &str = " none 10 20 none none 40 50 60 none 70 none";
+const REMOVED_IS_NONE: &str =
+    "5~none|10~10|20~20|30~none|35~none|40~40|50~50|60~60|65~none|70~70|75~none";
 
 // A rotation, with reads before it, where its rows are held, and after each of its five steps.
 fn rotate_slowly<R: Abort + Wait>(
     rows: &Rows,
     rt: &R,
-    alloc: Global,
     pass: &mut Pass,
     reader: &mut Pass,
     turn: &Turn,
@@ -106,17 +62,17 @@ fn rotate_slowly<R: Abort + Wait>(
     let (parent_side, side) = (turn.parent_side, turn.side);
     let (upper, lower, upward) = (turn.parent.row, turn.row.row, turn.raised.row);
     let (key, stamp) = (turn.row.key, turn.row.stamp);
-    reads_find(rows, rt, alloc, reader, ALL_ANSWER);
+    reads_find(rows, rt, reader, ALL_ANSWER);
     let middle = begin_turn(rows, pass, turn, key);
-    reads_find(rows, rt, alloc, reader, BELOW_IS_BUSY);
+    reads_find(rows, rt, reader, BELOW_IS_BUSY);
     link_lowered(rows, pass, upper, parent_side, lower, side, upward, middle);
-    reads_find(rows, rt, alloc, reader, BELOW_IS_BUSY);
+    reads_find(rows, rt, reader, BELOW_IS_BUSY);
     link_raised(rows, pass, upper, parent_side, lower, side, upward);
-    reads_find(rows, rt, alloc, reader, BELOW_IS_BUSY);
+    reads_find(rows, rt, reader, BELOW_IS_BUSY);
     link_parent(rows, pass, upper, parent_side, lower, side, upward, key);
-    reads_find(rows, rt, alloc, reader, LOWERED_IS_BUSY);
+    reads_find(rows, rt, reader, LOWERED_IS_BUSY);
     clear_shrinking(rows, pass, lower, stamp + 2);
-    reads_find(rows, rt, alloc, reader, ALL_ANSWER);
+    reads_find(rows, rt, reader, ALL_ANSWER);
 }
 
 // Repairs, and ends a write that holds no row. `made`: it made its entry.
@@ -153,7 +109,7 @@ fn free_and_end<R: Wait + Abort>(
 {
     let middle = turn.row.row;
     unlock(rows, pass, middle);
-    is(rt, comes_free(rows, reader, middle), true);
+    holds(rt, comes_free(rows, reader, middle));
     unlock(rows, pass, turn.raised.row);
     unlock(rows, pass, turn.parent.row);
     unlock(rows, pass, RowNo::HOLDER);
@@ -177,14 +133,15 @@ pub(crate) fn free_top<R: Wait>(rows: &Rows, rt: &R, pass: &mut Pass, turn: &Tur
     free_root(rows, rt, pass, turn.row.row, false);
 }
 
-// An unlinking of a row without children, with reads after each of its two steps.
+// An unlinking of a row without children, and what reads find after each of its two steps.
 fn unlink_slowly<R: Abort + Wait>(
     rows: &Rows,
     rt: &R,
-    alloc: Global,
     pass: &mut Pass,
     reader: &mut Pass,
     edge: &Edge,
+    marked: &str,
+    spliced: &str,
 )
     requires table { IsOf pass.old rows.now }
     requires reader { IsOf reader.old rows.now }
@@ -199,77 +156,47 @@ fn unlink_slowly<R: Abort + Wait>(
     let (row, stamp) = (edge.child.row, edge.child.stamp);
     let none = RowNo::HOLDER;
     mark_unlinked(rows, pass, upper, side, row, none, stamp, upper_key);
-    reads_find(rows, rt, alloc, reader, UNLINKED_IS_BUSY);
+    reads_find(rows, rt, reader, marked);
     splice(rows, pass, upper, side, row, none);
-    reads_find(rows, rt, alloc, reader, REMOVED_IS_NONE);
+    reads_find(rows, rt, reader, spliced);
 }
 
-// Puts at the keys 10 to 70, each of itself.
-pub(crate) fn put_seven<R: Wait>(rows: &Rows, rt: &R, pass: &mut Pass) -> bool
-    requires { IsReadyTo rows.now 0 0 pass.old }
-    ensures { IsReadyTo rows.now 0 7 pass.new }
-{
-    let mut said = true;
-    for turn in 0..7u64 {
-        let key = 10 * turn + 10;
-        said = make_call(rows, rt, pass, &Call::Put { key, value: key }) == Ok(None) && said;
-    }
-    said
-}
-
-// Puts 10 at the key 1, and then 20 at the key 2.
-fn put_two<R: Abort + Wait>(rows: &Rows, rt: &R, pass: &mut Pass)
-    requires { IsReadyTo rows.now 0 0 pass.old }
-    ensures { IsReadyTo rows.now 0 2 pass.new }
-{
-    let first = Call::Put { key: 1, value: 10 };
-    let second = Call::Put { key: 2, value: 20 };
-    is(rt, make_call(rows, rt, pass, &first), Ok(None));
-    is(rt, make_call(rows, rt, pass, &second), Ok(None));
-}
-
-fn stop_in_rotation<R: Abort + Wait>(
-    rows: &Rows,
-    rt: &R,
-    alloc: Global,
-    pass: &mut Pass,
-    reader: &mut Pass,
-)
-    requires pass { IsReadyTo rows.now 0 7 pass.old }
+fn stop_in_rotation<R: Abort + Wait>(rows: &Rows, rt: &R, pass: &mut Pass, reader: &mut Pass)
+    requires pass { IsReadyTo rows.now 0 1000 pass.old }
     requires reader { IsOf reader.old rows.now }
 {
     enter(rows, rt, pass);
     let turn = take_turn(rows, rt, pass, reader, 70).expect(rt, "no rotation");
-    rotate_slowly(rows, rt, alloc, pass, reader, &turn);
+    rotate_slowly(rows, rt, pass, reader, &turn);
     free_and_end(rows, rt, pass, reader, &turn, false);
-    reads_find(rows, rt, alloc, reader, ALL_ANSWER);
+    reads_find(rows, rt, reader, ALL_ANSWER);
 }
 
 // Turns rows of which another write has yet to repair one, which waits for the row above meanwhile.
-fn turn_beside<R: Abort + Wait>(rows: &Rows, rt: &R, mut pass: Pass, mut reader: Pass)
-    requires pass { IsReadyTo rows.now 0 7 pass }
-    requires reader { IsOf reader rows.now }
+fn turn_beside<R: Abort + Wait>(rows: &Rows, rt: &R, pass: &mut Pass, reader: &mut Pass)
+    requires pass { IsReadyTo rows.now 0 1000 pass.old }
+    requires reader { IsOf reader.old rows.now }
 {
-    enter(rows, rt, &mut pass);
-    let turn = take_turn(rows, rt, &mut pass, &mut reader, 80).expect(rt, "no rotation");
+    enter(rows, rt, pass);
+    let turn = take_turn(rows, rt, pass, reader, 80).expect(rt, "no rotation");
     let key = turn.row.key;
-    let _ = rotate(rows, &mut pass, &turn, key);
-    free_and_end(rows, rt, &mut pass, &mut reader, &turn, false);
+    let _ = rotate(rows, pass, &turn, key);
+    free_and_end(rows, rt, pass, reader, &turn, false);
 }
 
 // Puts 80 once the row of 60, which was the sixth to be drawn, is held.
 fn put_eighty<R: Abort + Wait>(
     rows: &Rows,
     rt: &R,
-    mut pass: Pass,
-    mut reader: Pass,
+    pass: &mut Pass,
+    reader: &mut Pass,
 ) -> Result<Option<u64>, Full>
     requires rows { 6 ≤ rows.now.rows }
-    requires pass { IsReadyTo rows.now 1 0 pass }
-    requires reader { IsOf reader rows.now }
+    requires pass { IsReadyTo rows.now 1 0 pass.old }
+    requires reader { IsOf reader.old rows.now }
 {
-    is(rt, comes_held(rows, &mut reader, RowNo::of(6)), true);
-    make_call(rows, rt, &mut pass, &Call::Put { key: 80, value: 80 })
+    holds(rt, comes_held(rows, reader, RowNo::of(6)));
+    make_call(rows, rt, pass, &Call::Put { key: 80, value: 80 })
 }
 
 // Begins a write and removes the key.
@@ -304,66 +231,51 @@ pub(crate) fn begin_write<R: Abort + Wait>(
     write(rows, rt, pass, call, way).expect(rt, "no row is left")
 }
 
-fn stop_in_unlinking<R: Abort + Wait>(
-    rows: &Rows,
-    rt: &R,
-    alloc: Global,
-    pass: &mut Pass,
-    reader: &mut Pass,
-)
-    requires pass { IsReadyTo rows.now 0 7 pass.old }
+fn stop_in_unlinking<R: Abort + Wait>(rows: &Rows, rt: &R, pass: &mut Pass, reader: &mut Pass)
+    requires pass { IsReadyTo rows.now 0 1000 pass.old }
     requires reader { IsOf reader.old rows.now }
 {
     is(rt, remove(rows, rt, pass, 30), Some(30));
-    reads_find(rows, rt, alloc, reader, REMOVED_IS_NONE);
+    reads_find(rows, rt, reader, REMOVED_IS_NONE);
     let turn = take_routing(rows, rt, pass).expect(rt, "no unlinking");
     let edge = Edge {
         parent: turn.row,
         side: turn.side,
         child: turn.raised,
     };
-    unlink_slowly(rows, rt, alloc, pass, reader, &edge);
+    unlink_slowly(
+        rows,
+        rt,
+        pass,
+        reader,
+        &edge,
+        UNLINKED_IS_BUSY,
+        REMOVED_IS_NONE,
+    );
     free_and_end(rows, rt, pass, reader, &turn, true);
-    reads_find(rows, rt, alloc, reader, REMOVED_IS_NONE);
+    reads_find(rows, rt, reader, REMOVED_IS_NONE);
 }
 
-// An unlinking of the root, which is the one row of its tree and had the key 1, with reads after each of its two steps.
-fn unlink_root<R: Abort>(rows: &Rows, rt: &R, pass: &mut Pass, reader: &mut Pass, edge: &Edge)
-    requires table { IsOf pass.old rows.now }
-    requires reader { IsOf reader.old rows.now }
-    requires rows { IsWithin rows.now.rows edge.now }
-    requires edge { IsEdge pass.old.view edge.now }
-    requires gone { IsUnlinkable pass.old.view edge.now.child.row }
-    requires whole { pass.old.view.doing ≡ Nothing }
-    ensures reader { IsOf reader.new rows.now }
-    ensures unlinked { Unlinks pass.old pass.new edge.now 0 }
-{
-    let (side, upper, upper_key) = (edge.side, edge.parent.row, edge.parent.key);
-    let (row, stamp) = (edge.child.row, edge.child.stamp);
-    let none = RowNo::HOLDER;
-    let busy = Err(Busy {
-        left: 1,
-        entered: 2,
-    });
-    mark_unlinked(rows, pass, upper, side, row, none, stamp, upper_key);
-    is(rt, try_get(rows, reader, 1), busy);
-    splice(rows, pass, upper, side, row, none);
-    is(rt, try_get(rows, reader, 1), Ok(None));
-}
-
+// The same of the root, which is the one row of its tree and has the key 1.
 fn stop_at_root<R: Abort + Wait>(rows: &Rows, rt: &R, pass: &mut Pass, reader: &mut Pass)
-    requires pass { IsReadyTo rows.now 0 1 pass.old }
+    requires pass { IsReadyTo rows.now 0 1000 pass.old }
     requires reader { IsOf reader.old rows.now }
 {
     is(rt, remove(rows, rt, pass, 1), Some(5));
     let edge = take_root(rows, rt, pass).expect(rt, "no unlinking");
-    unlink_root(rows, rt, pass, reader, &edge);
+    unlink_slowly(rows, rt, pass, reader, &edge, "1~1 of 2", "1~none");
     free_root(rows, rt, pass, edge.child.row, true);
-    is(rt, try_get(rows, reader, 1), Ok(None));
+    reads_find(rows, rt, reader, "1~none");
 }
 
 // A rotation at the root, by which row 1 goes down below row 2, with a read of the key 2 after the first of five steps.
-fn rotate_root<R: Abort>(rows: &Rows, rt: &R, pass: &mut Pass, reader: &mut Pass, turn: &Turn)
+fn rotate_root<R: Abort + Wait>(
+    rows: &Rows,
+    rt: &R,
+    pass: &mut Pass,
+    reader: &mut Pass,
+    turn: &Turn,
+)
     requires reader { IsOf reader.old rows.now }
     requires rotates { MayRotate rows.now pass.old turn.now turn.now.row.key }
     ensures reader { IsOf reader.new rows.now }
@@ -371,11 +283,7 @@ fn rotate_root<R: Abort>(rows: &Rows, rt: &R, pass: &mut Pass, reader: &mut Pass
 {
     let key = turn.row.key;
     let middle = begin_turn(rows, pass, turn, key);
-    let busy = Err(Busy {
-        left: 2,
-        entered: 3,
-    });
-    is(rt, try_get(rows, reader, 2), busy);
+    reads_find(rows, rt, reader, "2~2 of 3");
     end_turn(rows, pass, turn, middle);
 }
 
@@ -391,76 +299,86 @@ fn stop_in_rotation_at_root<R: Abort + Wait>(
     pass: &mut Pass,
     reader: &mut Pass,
 )
-    requires pass { IsReadyTo rows.now 0 2 pass.old }
+    requires pass { IsReadyTo rows.now 0 1000 pass.old }
     requires reader { IsOf reader.old rows.now }
 {
     enter(rows, rt, pass);
     let turn = take_top_turn(rows, rt, pass).expect(rt, "no rotation");
     turns_both(rt, &turn);
-    is(rt, get(rows, rt, reader, 2), Some(20));
-    is(rt, try_get(rows, reader, 2), Ok(Some(20)));
+    reads_find(rows, rt, reader, "2~20");
     rotate_root(rows, rt, pass, reader, &turn);
     free_top(rows, rt, pass, &turn);
-    is(rt, try_get(rows, reader, 2), Ok(Some(20)));
-    is(rt, try_get(rows, reader, 1), Ok(Some(10)));
+    reads_find(rows, rt, reader, "2~20|1~10");
 }
 
 #[test]
-fn reads_meet_a_stopped_rotation(rt: HostRuntime) -> Result<(), Fail> {
-    let (rows, mut passes) = Rows::open(rt.alloc(), 7, 2)?;
-    let mut q = passes.pop().expect(&rt, "no second pass");
-    let mut p = passes.pop().expect(&rt, "no first pass");
-    is(&rt, put_seven(&rows, &rt, &mut p), true);
-    stop_in_rotation(&rows, &rt, rt.alloc(), &mut p, &mut q);
-    Ok(())
+fn reads_meet_a_stopped_rotation(rt: HostRuntime) {
+    let (rows, mut p, mut q) = open_with(&rt, rt.alloc(), 7, SEVEN);
+    stop_in_rotation(&rows, &rt, &mut p, &mut q);
+}
+
+// A table of eight rows, and its four passes.
+fn open_for_four<R: Abort>(rt: &R, alloc: Global) -> (Rows, Pass, Pass, Pass, Pass)
+    ensures rows { result.0.rows ≡ 8 }
+    ensures first { IsReadyTo result.0 0 0 result.1 }
+    ensures second { IsReadyTo result.0 1 0 result.2 }
+    ensures readers { IsOf result.3 result.0 × IsOf result.4 result.0 }
+{
+    let (rows, mut passes) = Rows::open(alloc, 8, 4).expect(rt, "no memory");
+    let fourth = passes.pop().expect(rt, "no fourth pass");
+    let third = passes.pop().expect(rt, "no third pass");
+    let second = passes.pop().expect(rt, "no second pass");
+    let first = passes.pop().expect(rt, "no first pass");
+    (rows, first, second, third, fourth)
+}
+
+// The first pass turns, with the third as its reader, and the second puts, with the fourth as its
+// own. What the put answers.
+fn turn_and_put<R: Abort + Threads + Wait + Sync>(
+    rows: &Rows,
+    rt: &R,
+    p: &mut Pass,
+    q: &mut Pass,
+    r: &mut Pass,
+    s: &mut Pass,
+) -> Result<Option<u64>, Full>
+    requires rows { 6 ≤ rows.now.rows }
+    requires p { IsReadyTo rows.now 0 1000 p.old }
+    requires q { IsReadyTo rows.now 1 0 q.old }
+    requires readers { IsOf r.old rows.now × IsOf s.old rows.now }
+{
+    let (_, reply) = thread::join(
+        rt,
+        || turn_beside(rows, rt, p, r),
+        || put_eighty(rows, rt, q, s),
+    );
+    reply
 }
 
 // The put of 80 unsettles 70, and waits then for 60, which the other write holds until 70 stands above it. It must not
 // keep 60 while it waits for 70: the other write waits for 60 to come free before it frees 70.
 #[test]
-fn a_repair_keeps_no_row_that_has_lost_its_child(rt: HostRuntime) -> Result<(), Fail> {
-    let (rows, mut passes) = Rows::open(rt.alloc(), 8, 4)?;
-    let s = passes.pop().expect(&rt, "no fourth pass");
-    let r = passes.pop().expect(&rt, "no third pass");
-    let q = passes.pop().expect(&rt, "no second pass");
-    let mut p = passes.pop().expect(&rt, "no first pass");
-    is(&rt, put_seven(&rows, &rt, &mut p), true);
-    let (_, reply) = thread::join(
-        &rt,
-        || turn_beside(&rows, &rt, p, r),
-        || put_eighty(&rows, &rt, q, s),
-    );
+fn a_repair_keeps_no_row_that_has_lost_its_child(rt: HostRuntime) {
+    let (rows, mut p, mut q, mut r, mut s) = open_for_four(&rt, rt.alloc());
+    put_all(&rows, &rt, &mut p, SEVEN);
+    let reply = turn_and_put(&rows, &rt, &mut p, &mut q, &mut r, &mut s);
     is(&rt, reply, Ok(None));
-    Ok(())
 }
 
 #[test]
-fn reads_meet_a_stopped_unlinking(rt: HostRuntime) -> Result<(), Fail> {
-    let (rows, mut passes) = Rows::open(rt.alloc(), 7, 2)?;
-    let mut q = passes.pop().expect(&rt, "no second pass");
-    let mut p = passes.pop().expect(&rt, "no first pass");
-    is(&rt, put_seven(&rows, &rt, &mut p), true);
-    stop_in_unlinking(&rows, &rt, rt.alloc(), &mut p, &mut q);
-    Ok(())
+fn reads_meet_a_stopped_unlinking(rt: HostRuntime) {
+    let (rows, mut p, mut q) = open_with(&rt, rt.alloc(), 7, SEVEN);
+    stop_in_unlinking(&rows, &rt, &mut p, &mut q);
 }
 
 #[test]
-fn reads_meet_a_stopped_unlinking_of_the_root(rt: HostRuntime) -> Result<(), Fail> {
-    let (rows, mut passes) = Rows::open(rt.alloc(), 1, 2)?;
-    let mut q = passes.pop().expect(&rt, "no second pass");
-    let mut p = passes.pop().expect(&rt, "no first pass");
-    let call = Call::Put { key: 1, value: 5 };
-    is(&rt, make_call(&rows, &rt, &mut p, &call), Ok(None));
+fn reads_meet_a_stopped_unlinking_of_the_root(rt: HostRuntime) {
+    let (rows, mut p, mut q) = open_with(&rt, rt.alloc(), 1, "1~5");
     stop_at_root(&rows, &rt, &mut p, &mut q);
-    Ok(())
 }
 
 #[test]
-fn a_read_meets_a_stopped_rotation_at_the_root(rt: HostRuntime) -> Result<(), Fail> {
-    let (rows, mut passes) = Rows::open(rt.alloc(), 4, 2)?;
-    let mut q = passes.pop().expect(&rt, "no second pass");
-    let mut p = passes.pop().expect(&rt, "no first pass");
-    put_two(&rows, &rt, &mut p);
+fn a_read_meets_a_stopped_rotation_at_the_root(rt: HostRuntime) {
+    let (rows, mut p, mut q) = open_with(&rt, rt.alloc(), 4, "1~10|2~20");
     stop_in_rotation_at_root(&rows, &rt, &mut p, &mut q);
-    Ok(())
 }

@@ -5,48 +5,25 @@ ghost use Rattle.snap_table.specs.Ready.{IsReadyTo};
 
 use crate::asserts::is;
 use crate::grips::take_top_turn;
-use crate::stopped::{begin_write, end_by, free_top, put_seven};
+use crate::stopped::{begin_write, end_by, free_top};
+use crate::tables::open_with;
 use snap_epoch::enter;
 use snap_model::Call;
 use snap_search::Way;
 use snap_shape::{begin_turn, end_turn};
 use snap_stamp::Key;
 use snap_steps::{Pass, Rows};
-use snap_table::make_call;
 use std::alloc::Global;
 use std::process::Abort;
 use std::sync::Wait;
-use std::test::Fail;
 
-// The key that is put beside the seven at this turn: 25 below 30, 5 and 15 below 10, 80 below 70, and 3 below 5.
-fn key_beside(turn: u64) -> Key
-    ensures { result ≤ 80 }
-{
-    match turn {
-        0 => 25,
-        1 => 5,
-        2 => 80,
-        3 => 15,
-        _ => 3,
-    }
-}
-
-fn put_five<R: Wait>(rows: &Rows, rt: &R, pass: &mut Pass) -> bool
-    requires { IsReadyTo rows.now 0 7 pass.old }
-    ensures { IsReadyTo rows.now 0 12 pass.new }
-{
-    let mut said = true;
-    for turn in 0..5u64 {
-        let key = key_beside(turn);
-        said = make_call(rows, rt, pass, &Call::Put { key, value: key }) == Ok(None) && said;
-    }
-    said
-}
+// The seven keys, and 25 below 30, 5 and 15 below 10, 80 below 70, and 3 below 5.
+const TWELVE: &str = "10~10|20~20|30~30|40~40|50~50|60~60|70~70|25~25|5~5|80~80|15~15|3~3";
 
 // Puts the key and repairs. Meanwhile the other pass holds row 0, the root and its right child, and the root has the mark
 // of a rotation.
 fn repair_below<R: Abort + Wait>(rows: &Rows, rt: &R, pass: &mut Pass, other: &mut Pass, key: Key)
-    requires pass { IsReadyTo rows.now 0 12 pass.old }
+    requires pass { IsReadyTo rows.now 0 1000 pass.old }
     requires other { IsReadyTo rows.now 1 0 other.old }
     requires key { key ≤ 80 }
 {
@@ -62,26 +39,21 @@ fn repair_below<R: Abort + Wait>(rows: &Rows, rt: &R, pass: &mut Pass, other: &m
     free_top(rows, rt, other, &turn);
 }
 
-fn put_below<R: Abort + Wait>(rt: &R, alloc: Global, key: Key) -> Result<(), Fail>
+fn put_below<R: Abort + Wait>(rt: &R, alloc: Global, key: Key)
     requires { key ≤ 80 }
 {
-    let (rows, mut passes) = Rows::open(alloc, 13, 2)?;
-    let mut q = passes.pop().expect(rt, "no second pass");
-    let mut p = passes.pop().expect(rt, "no first pass");
-    is(rt, put_seven(&rows, rt, &mut p), true);
-    is(rt, put_five(&rows, rt, &mut p), true);
+    let (rows, mut p, mut q) = open_with(rt, alloc, 13, TWELVE);
     repair_below(&rows, rt, &mut p, &mut q, key);
-    Ok(())
 }
 
 // 35 goes below 30, which has 25 on its other side: the repair ends at 30.
 #[test]
-fn a_repair_goes_up_by_the_way_of_its_write(rt: HostRuntime) -> Result<(), Fail> {
-    put_below(&rt, rt.alloc(), 35)
+fn a_repair_goes_up_by_the_way_of_its_write(rt: HostRuntime) {
+    put_below(&rt, rt.alloc(), 35);
 }
 
 // 2 goes below 3, and 5 goes down below 3: the repair comes to 5 there, then to 3, and ends at 10.
 #[test]
-fn a_rotation_leaves_the_way(rt: HostRuntime) -> Result<(), Fail> {
-    put_below(&rt, rt.alloc(), 2)
+fn a_rotation_leaves_the_way(rt: HostRuntime) {
+    put_below(&rt, rt.alloc(), 2);
 }

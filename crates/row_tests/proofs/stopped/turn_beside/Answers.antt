@@ -5,7 +5,7 @@ use Rattle.row_tests.specs.Stopping.{MayTurn}
 use Rattle.snap_prelude.specs.{Known}
 
 pub take_turn-requires-clause-mending : goal.take_turn-requires-clause-mending
-take_turn-requires-clause-mending g c = entered_mending c.args.pass c.enter.new.pass c.requires.pass.idle c.enter.ensures
+take_turn-requires-clause-mending g c = entered_mending c.args.pass.now c.enter.new.pass c.requires.pass.idle c.enter.ensures
 
 pub rotate-requires : goal.rotate-requires
 rotate-requires g c =
