@@ -221,11 +221,7 @@ impl<'t> Session<'t> {
         ensures refused { OnErr result (out.new.items ≡ out.old.items) }
     {
         let view = self.clone_in(slot);
-        let pairs = pairs_from(alloc, view, lo, hi)?;
-        add_text(alloc, &pairs, out)?;
-        Ok(Reply::Exported {
-            n: pairs.len() as u64,
-        })
+        export_range(alloc, view, lo, hi, out)
     }
 
     // Asks one view more of the clone, and gives it back to the pass of the clone's table.
@@ -289,6 +285,27 @@ fn put_all<R: Wait>(table: &SnapTable, rt: &R, pass: &mut Pass, pairs: &[(Key, u
         made += 1;
     }
     Reply::Loaded { n: made }
+}
+
+// Adds the text of a clone's pairs in a range, and answers how many there are.
+fn export_range(
+    alloc: Global,
+    view: TableView<'_>,
+    lo: Key,
+    hi: Key,
+    out: &mut Vec<u8>,
+) -> Result<Reply, OutOfMemory>
+    ensures reply { IfOk result
+        (λ reply. reply ≡ Reply.Exported (count (after view.entry.base) lo hi)) }
+    ensures out { OnOk result
+        (out.new.items ≡ out.old.items ++ table_text (range (after view.entry.base) lo hi)) }
+    ensures refused { OnErr result (out.new.items ≡ out.old.items) }
+{
+    let pairs = pairs_from(alloc, view, lo, hi)?;
+    add_text(alloc, &pairs, out)?;
+    Ok(Reply::Exported {
+        n: pairs.len() as u64,
+    })
 }
 
 // The pairs of a clone in a range.
