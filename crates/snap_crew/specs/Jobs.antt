@@ -53,6 +53,11 @@ pub record IsJob (loads : Loads) (tables : Tables) (commands : List Command) (i 
   pub on : job.session ≡ new_session tables (new_kit tables.laid i)
   pub can : CanWork loads i job.session commands
 
+-- a job on these tables for each of these scripts, by its number
+abbrev pub AreJobs : Loads → Tables → List (List Line) → List Job → Type 0
+AreJobs loads tables scripts jobs = (i : ℕ) (s : List Line) (e : Job) → i < length scripts
+    → IsJob loads tables (script_commands (slice_index_or scripts i s)) i (slice_index_or jobs i e)
+
 -- worker i at its seat, with its job on these tables, and nothing put out
 pub record Sits (loads : Loads) (tables : Tables) (outlet : OutletId)
     (names : Option (Bor (List (List ℕ)))) (commands : List Command) (i : ℕ)

@@ -1,6 +1,7 @@
 //! The jobs of a run: a session for each script.
 ghost use Rattle.std.specs.Prelude.{◌≡◌, ◌<◌, ℕ, IfOk, length, slice_index_or};
 ghost use Rattle.snap_crew.specs.{Jobs.AreKits, Jobs.IsJob, Works.script_commands};
+ghost use Rattle.snap_service.specs.Prelude.{AreSeated, IsFresh, new_session};
 
 use crate::crew::Job;
 use snap_model::OutOfMemory;
@@ -27,16 +28,33 @@ pub fn open_jobs<'t>(
     let mut left = kits;
     while let Some(kit) = left.pop() {
         let place = left.len();
-        let session = match Session::open(alloc, service, kit) {
-            Ok(session) => session,
-            Err((_, want)) => return Err(want),
-        };
-        jobs.push(Job {
-            session,
-            script: scripts[place].lines(),
-            who: place as u32,
-        })?;
+        let job = open_job(alloc, service, kit, &scripts[place], place as u32)?;
+        jobs.push(job)?;
     }
     jobs.reverse();
     Ok(jobs)
+}
+
+// A worker's job: a new session by its kit, and its script.
+fn open_job<'t>(
+    alloc: Global,
+    service: &'t Service,
+    kit: Kit,
+    script: &'t Script,
+    who: u32,
+) -> Result<Job<'t>, OutOfMemory>
+    requires { AreSeated service.now kit }
+    ensures session { IfOk result (λ job. job.session ≡ new_session service.now kit) }
+    ensures begins { IfOk result (λ job. IsFresh service.now kit job.session) }
+    ensures script { IfOk result (λ job. job.script.now ≡ script.now) }
+    ensures who { IfOk result (λ job. job.who ≡ who) }
+{
+    match Session::open(alloc, service, kit) {
+        Ok(session) => Ok(Job {
+            session,
+            script: script.lines(),
+            who,
+        }),
+        Err((_, want)) => Err(want),
+    }
 }

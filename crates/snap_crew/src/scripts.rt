@@ -1,10 +1,12 @@
 //! Scripts on tables of their own, from opening to closing.
-ghost use Rattle.std.specs.Prelude.{◌≡◌, ◌≤◌, All, IfOk, IfSome, IsOk, None, OnOk, length, map};
-ghost use Rattle.snap_crew.specs.{Endings.Finishes, Jobs.AreKits, Jobs.IsCrew, Jobs.IsTask, Ran.HasRunJobs};
-ghost use Rattle.snap_crew.specs.{Ran.RunsCrew, Tasks.AreReady, Tasks.task_files};
+ghost use Rattle.std.specs.Prelude.{◌≡◌, ◌≤◌, ◌+◌, ◌++◌, ◌∷◌, [], All, IfOk, IfSome, IsOk, None, OnOk, length, map};
+ghost use Rattle.snap_crew.specs.{Endings.Finishes, Jobs.AreJobs, Jobs.AreKits, Jobs.IsCrew, Jobs.IsTask};
+ghost use Rattle.snap_crew.specs.{Leaving.IsUnusedRoom, Ran.HasRunJobs, Ran.RunsCrew, Tasks.AreReady, Tasks.task_files};
 ghost use Rattle.snap_desk.specs.Files.{KeepsOthers};
 ghost use Rattle.snap_io.specs.Prelude.{Changes};
+ghost use Rattle.snap_service.specs.States.{AreTablesOf, Tables, new_kit};
 
+use crate::crew::Job;
 use crate::ending::{Ending, end_run};
 use crate::jobs::open_jobs;
 use crate::leaving::{Done, Room, run_all};
@@ -93,7 +95,37 @@ pub fn run_scripts<R: Threads + Wait + Sync, S: Shelf, T: Turn + Sync>(
     let Some(own) = opened.pop() else {
         unreachable!()
     };
-    let ran = run_jobs(rt, alloc, &service, opened, task, turn, shelf, made)?;
+    run_on(rt, alloc, service, opened, own, task, turn, shelf, made)
+}
+
+// Runs each script on new tables by the kit of its number, and closes them by the last kit.
+fn run_on<R: Threads + Wait + Sync, S: Shelf, T: Turn + Sync>(
+    rt: &R,
+    alloc: Global,
+    service: Service,
+    kits: Vec<Kit>,
+    own: Kit,
+    task: &Task<'_>,
+    turn: &T,
+    shelf: &mut S,
+    made: Result<(), Unwritten>,
+) -> Result<Finished, OutOfMemory>
+    requires tables { AreTablesOf service task.now.tables.now task.now.rows
+        (length task.now.scripts.now + 1) }
+    requires kits { AreKits service task.now.loads.now task.now.scripts.now kits.items }
+    requires own { own ≡ new_kit service.laid (length task.now.scripts.now) }
+    requires some_scripts { 1 ≤ length task.now.scripts.now }
+    requires files { AreReady task.now made (S.files shelf.old) }
+    ensures finished { IfOk result
+        (Finishes task.now made (S.files shelf.old) (S.files shelf.new)
+        (S.write_faults shelf.old) (S.write_faults shelf.new)) }
+    ensures kept { Changes (S.files shelf.old) (S.files shelf.new)
+        (KeepsOthers (task_files task.now)) }
+    ensures later { S.write_faults shelf.old ≤ S.write_faults shelf.new }
+    ensures reads { S.read_faults shelf.new ≡ S.read_faults shelf.old }
+    ensures none { task.now.replies ≡ None → shelf.new ≡ shelf.old }
+{
+    let ran = run_jobs(rt, alloc, &service, kits, task, turn, shelf, made)?;
     let Ran {
         receipts,
         fulls,
@@ -151,10 +183,30 @@ fn open_crew<'t>(
     ensures { IfOk result
         (IsCrew task.now.loads.now service.now task.now.scripts.now task.now.replies) }
 {
-    let workers = task.scripts.len();
-    let (outlet, senders, taker) = Outlet::open(alloc, workers as u32)?;
-    let room = Room::new(alloc, workers)?;
     let jobs = open_jobs(alloc, service, kits, task.scripts, task.loads)?;
+    let room = Room::new(alloc, task.scripts.len())?;
+    seated(alloc, task, jobs, room)
+}
+
+// Workers at their seats, by their jobs.
+fn seated<'t>(
+    alloc: Global,
+    task: &Task<'t>,
+    jobs: Vec<Job<'t>>,
+    room: Room,
+) -> Result<Crew<'t>, OutOfMemory>
+    requires some { 1 ≤ length task.now.scripts.now }
+    requires few { length task.now.scripts.now ≤ 32 }
+    requires a_job_each { length jobs.items ≡ length task.now.scripts.now }
+    requires names { IfSome task.now.replies
+        (λ names. length names.now ≡ length task.now.scripts.now) }
+    requires room { IsUnusedRoom (length task.now.scripts.now) room }
+    ensures { IfOk result
+        (λ crew. (tables : Tables)
+        → AreJobs task.now.loads.now tables task.now.scripts.now jobs.entry.items
+        → IsCrew task.now.loads.now tables task.now.scripts.now task.now.replies crew) }
+{
+    let (outlet, senders, taker) = Outlet::open(alloc, task.scripts.len() as u32)?;
     let seats = open_seats(alloc, &outlet, jobs, senders, task.replies)?;
     Ok(Crew {
         outlet,
@@ -216,21 +268,34 @@ fn parted(alloc: Global, all: Vec<Done>, written: Result<(), Unwritten>) -> Resu
     ensures written { IfOk result (λ ran. ran.written ≡ written) }
     ensures came { OnOk result (All (λ d. IsOk d.came) all.items) }
 {
-    let mut receipts = Vec::new(alloc);
-    let mut fulls = Vec::new(alloc);
+    let mut ran = Ran {
+        receipts: Vec::new(alloc),
+        fulls: Vec::new(alloc),
+        written,
+    };
     for done in all {
+        ran.add(done)?;
+    }
+    Ok(ran)
+}
+
+impl Ran {
+    // Adds what one worker left, unless memory ran out at it.
+    fn add(&mut self, done: Done) -> Result<(), OutOfMemory>
+        ensures receipts { OnOk result
+            (self.new.receipts.items ≡ self.old.receipts.items ++ done.receipt ∷ []) }
+        ensures fulls { OnOk result (self.new.fulls.items ≡ self.old.fulls.items ++ done.full ∷ []) }
+        ensures written { self.new.written ≡ self.old.written }
+        ensures came { OnOk result (IsOk done.came) }
+    {
         let Done {
             receipt,
             full,
             came,
         } = done;
         came?;
-        receipts.push(receipt)?;
-        fulls.push(full)?;
+        self.receipts.push(receipt)?;
+        self.fulls.push(full)?;
+        Ok(())
     }
-    Ok(Ran {
-        receipts,
-        fulls,
-        written,
-    })
 }

@@ -1,7 +1,7 @@
 //! The seats of a run's workers: each has its job, and the desk at which it leaves what its commands come to.
 ghost use Rattle.std.specs.Prelude.{◌≡◌, ◌<◌, ◌≤◌, IfOk, IfSome, length, slice_index_or, ℕ};
 ghost use Rattle.snap_crew.specs.Seats.{IsReplyAt, IsSeat};
-ghost use Rattle.snap_outlet.specs.Outlets.{new_senders};
+ghost use Rattle.snap_outlet.specs.Outlets.{OutletId, new_sender, new_senders};
 
 use crate::crew::Job;
 use snap_desk::Desk;
@@ -41,17 +41,34 @@ pub fn open_seats<'t>(
         let Some(sender) = others.pop() else {
             unreachable!()
         };
-        let reply = reply_at(alloc, names, left.len())?;
-        let who = job.who;
-        let desk = Desk::new(alloc, Post::new(alloc, sender), reply, who);
-        seats.push(Seat {
-            job,
-            desk,
-            came: Ok(()),
-        })?;
+        let seat = seat_of(alloc, job, sender, names, left.len())?;
+        seats.push(seat)?;
     }
     seats.reverse();
     Ok(seats)
+}
+
+// The seat of a job, with this sender, and the reply file of this place where there are such.
+fn seat_of<'t>(
+    alloc: Global,
+    job: Job<'t>,
+    sender: OutSender,
+    names: Option<&[Name]>,
+    place: usize,
+) -> Result<Seat<'t>, OutOfMemory>
+    requires { IfSome names (λ names. place < length names.now) }
+    ensures { IfOk result
+        (λ seat. (outlet : OutletId) → sender ≡ new_sender outlet place
+        → IsSeat outlet names.entry place job.entry seat) }
+{
+    let reply = reply_at(alloc, names, place)?;
+    let who = job.who;
+    let desk = Desk::new(alloc, Post::new(alloc, sender), reply, who);
+    Ok(Seat {
+        job,
+        desk,
+        came: Ok(()),
+    })
 }
 
 // The reply file of a place, where there are reply files.

@@ -1,24 +1,5 @@
-use Rattle.std.proofs.Common.{◌<◌, ◌∙◌, length, slice_index_or, ap, subst, sym, arith}
-use Rattle.snap_crew.specs.Prelude.{script_commands, IsJob, Job}
-use Rattle.snap_outlet.specs.Posts.{put_at}
-use Rattle.snap_desk.proofs.Names.{some_of}
+use Rattle.snap_service.proofs.Using.{if_ok}
 use Rattle.snap_crew.proofs.scripts.open_crew.Goals as goal
 
 pub returns : goal.returns
-returns c =
-    let n = length c.args.task.now.scripts.now in let jobs = c.in_ok-jobs.jobs in let many = c.in_ok-jobs.ensures.many in
-    record {
-      taker = c.in_ok-outlet.ensures.taker;
-      a_seat_each = c.in_ok-seats.ensures.many ∙ many;
-      seats = λ i s d l.
-          let lj : i < length jobs.items = omega (arith, l, many) in let j = some_of jobs.items i lj in
-          let seat = c.in_ok-seats.ensures.each i j d lj in
-          record {
-            job = subst (λ (x : Job). IsJob c.args.task.now.loads.now c.args.service.now (script_commands (slice_index_or c.args.task.now.scripts.now i s)) i x) (sym seat.job_is) (c.in_ok-jobs.ensures.each i s j l);
-            post = seat.post_is;
-            reply = seat.reply_is;
-            blank = record { nothing_put = ap put_at seat.post_is; no_lines = seat.lines_are; no_full = seat.full_is; no_pieces = seat.pieces_are };
-            who = seat.who_is;
-          };
-      room = c.in_ok-room.ensures;
-    }
+returns c = if_ok c.seated.result _ _ (λ crew h. h c.args.service.now c.in_ok-jobs.ensures.each) c.seated.ensures

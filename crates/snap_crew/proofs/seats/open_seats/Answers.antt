@@ -1,7 +1,7 @@
-use Rattle.std.proofs.Common.{◌≡◌, ℕ, List, Option, Ok, length, sym, ap, subst, ◌∙◌, arith, slice_index_or}
+use Rattle.std.proofs.Common.{◌≡◌, ℕ, length, sym, ap, subst, ◌∙◌, arith, slice_index_or}
 use Rattle.snap_service.proofs.Ending.{fewer_is, last_is, one_less}
-use Rattle.snap_outlet.specs.Posts.{new_post}
-use Rattle.snap_crew.specs.Prelude.{IsReplyAt, IsSeat, Seat}
+use Rattle.snap_outlet.specs.Outlets.{new_sender}
+use Rattle.snap_crew.specs.Prelude.{IsSeat}
 use Rattle.snap_prelude.proofs.Common.{length_push}
 use Rattle.snap_crew.proofs.{Beginning.mirror_next, Beginning.straight, Seating.last_sender, Seating.senders_many}
 use Rattle.snap_crew.proofs.seats.open_seats.Goals as goal
@@ -11,7 +11,10 @@ loop-job-preserved c =
     let v = c.loop-job.invariant in let jobs = c.args.jobs.items in let fewer = c.pop.new.self.items in let job = c.in-Some.job in
     let one = one_less jobs c.loop-job.left.items fewer job v.left c.in-Some.ensures.items in
     let last = last_sender c.args.outlet.now (length fewer) (length c.loop-job.left.items) c.loop-job.others.items c.pop-in-Some.new.self.items c.in-Some-pop.sender one v.senders c.in-Some-pop.ensures.items in
-    let seat : Seat = record { job = job; desk = c.new-desk.result; came = Ok tt } in
+    let seat = c.in_ok-seat.seat in
+    let here : c.len.result ≡ length fewer = omega (arith, c.len.ensures, c.pop.new.self.ok.0) in
+    let is : IsSeat c.args.outlet.now c.args.names (length fewer) job seat =
+    subst (λ (n : ℕ). IsSeat c.args.outlet.now c.args.names n job seat) here (c.in_ok-seat.ensures c.args.outlet.now (last.1 ∙ ap (new_sender c.args.outlet.now) (sym here))) in
     record {
       left = fewer_is jobs c.loop-job.left.items fewer job v.left c.in-Some.ensures.items;
       senders = last.0;
@@ -19,13 +22,13 @@ loop-job-preserved c =
       seats = λ d. mirror_next (length jobs) c.loop-job.seats.items c.push.new.self.items (λ i x. IsSeat c.args.outlet.now c.args.names i (slice_index_or jobs i d) x)
           (length c.loop-job.left.items) (length fewer) seat one v.all c.in_ok-push.ensures.items
           (record {
-            job_is = last_is jobs c.loop-job.left.items fewer job v.left c.in-Some.ensures.items d;
-            post_is = c.new-desk.ensures.post ∙ c.new.ensures ∙ ap new_post last.1;
-            reply_is = subst (λ (o : Option (List ℕ)). IsReplyAt c.args.names (length fewer) o) (sym c.new-desk.ensures.reply) (subst (λ (n : ℕ). IsReplyAt c.args.names n c.in_ok-reply.reply) (let here : c.len.result ≡ length fewer = omega (arith, c.len.ensures, c.pop.new.self.ok.0) in here) c.in_ok-reply.ensures);
-            lines_are = c.new-desk.ensures.lines;
-            full_is = c.new-desk.ensures.full;
-            who_is = c.new-desk.ensures.who;
-            pieces_are = c.new-desk.ensures.pieces;
+            job_is = is.job_is ∙ last_is jobs c.loop-job.left.items fewer job v.left c.in-Some.ensures.items d;
+            post_is = is.post_is;
+            reply_is = is.reply_is;
+            lines_are = is.lines_are;
+            full_is = is.full_is;
+            who_is = is.who_is;
+            pieces_are = is.pieces_are;
           }) (v.seats d);
     }
 
