@@ -57,14 +57,8 @@ impl Room {
         ensures waiting { self.new.waiting ≡ self.old.waiting }
     {
         for seat in seats {
-            let Seat { job, desk, came } = seat;
-            let Job { session, .. } = job;
-            let Desk { post, full, .. } = desk;
-            self.done.push_reserved(Done {
-                receipt: session.finish(),
-                full,
-                came,
-            });
+            let (done, post) = left_at(seat);
+            self.done.push_reserved(done);
             self.posts.push_reserved(post);
         }
     }
@@ -103,6 +97,23 @@ impl Room {
         collector.collect_rests(alloc, shelf, waiting);
         done
     }
+}
+
+// What one worker left at its seat, and its post.
+fn left_at(seat: Seat<'_>) -> (Done, Post)
+    ensures done { result.0 ≡ done_of seat.entry }
+    ensures post { result.1 ≡ seat.entry.desk.post }
+    ensures seated { AreSeated seat.entry.job.session.tables seat.entry.job.session.passes }
+{
+    let Seat { job, desk, came } = seat;
+    let Job { session, .. } = job;
+    let Desk { post, full, .. } = desk;
+    let done = Done {
+        receipt: session.finish(),
+        full,
+        came,
+    };
+    (done, post)
 }
 
 /// Runs all workers at their seats, and writes all that they put out.
