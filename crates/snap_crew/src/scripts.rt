@@ -284,7 +284,8 @@ impl Ran {
     fn add(&mut self, done: Done) -> Result<(), OutOfMemory>
         ensures receipts { OnOk result
             (self.new.receipts.items ≡ self.old.receipts.items ++ done.receipt ∷ []) }
-        ensures fulls { OnOk result (self.new.fulls.items ≡ self.old.fulls.items ++ done.full ∷ []) }
+        ensures fulls { OnOk result
+            (self.new.fulls.items ≡ self.old.fulls.items ++ done.full ∷ []) }
         ensures written { self.new.written ≡ self.old.written }
         ensures came { OnOk result (IsOk done.came) }
     {
