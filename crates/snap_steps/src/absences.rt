@@ -6,44 +6,13 @@ ghost use Rattle.snap_steps.specs.Histories.{Enters};
 ghost use Rattle.snap_steps.specs.Rule.Epochs.{AllAre};
 ghost use Rattle.snap_steps.specs.Seen.{IsOf, Becomes};
 ghost use Rattle.snap_steps.specs.States.{link_field};
-ghost use Rattle.snap_steps.specs.Steps.Writes.{entry_of, made_entry, IsLeafPlace, ConfirmsAbsent};
+ghost use Rattle.snap_steps.specs.Steps.Writes.{entry_of, made_entry, IsLeafPlace};
 ghost use Rattle.snap_steps.specs.declared.view.Stage.TheVariants.{Writing};
 
-use crate::fields::index_of;
 use crate::pass::Pass;
 use crate::rows::Rows;
-use crate::view::View;
-use crate::writes::Saying;
-use atomic_table::Play;
-use snap_stamp::{Field, Key, RowNo, Side};
-use std::marker::{Brand, PhantomData};
-
-struct ConfirmBelow<J> {
-    marker: PhantomData<J>,
-}
-
-impl<J: Saying> Play<(), View> for ConfirmBelow<J> {
-    ghost then = { ConfirmsAbsent J.key };
-}
-
-fn confirm_below_keyed<J: Saying>(rows: &Rows, pass: &mut Pass, row: RowNo, field: Field, key: Key)
-    requires key { key ≡ J.key }
-    requires table { IsOf pass.old rows.now }
-    requires row { row ≤ rows.now.rows }
-    requires writing { pass.old.view.stage ≡ Writing false false }
-    requires place { IsLeafPlace pass.old.view J.key row field }
-    requires copies { AllAre J.key pass.old.view.fresh.copies }
-    requires whole { pass.old.view.doing ≡ Nothing }
-    ensures { (log : _) × Enters pass.old.view log (entry_of pass.old.view.who (Remove J.key) None)
-        × Becomes pass.old pass.new
-        (made_entry pass.old.view log (entry_of pass.old.view.who (Remove J.key) None)) }
-{
-    let _key = key;
-    let word = index_of(row, field);
-    rows.table
-        .shared
-        .load::<ConfirmBelow<J>>(&mut pass.seat, word);
-}
+use snap_stamp::{Key, RowNo, Side};
+use std::marker::Brand;
 
 /// Loads again the link of 0 below the held row at which the way of the key ends. This makes the entry of the
 /// write: a removal that found none.
@@ -58,6 +27,5 @@ pub fn confirm_absent_below(rows: &Rows, pass: &mut Pass, row: RowNo, side: Side
         × Becomes pass.old pass.new
         (made_entry pass.old.view log (entry_of pass.old.view.who (Remove key) None)) }
 {
-    let field = side.link();
-    confirm_below_keyed::<Brand>(rows, pass, row, field, key);
+    rows.load_told::<Brand, _>(&mut pass.seat, row, side.link(), key);
 }

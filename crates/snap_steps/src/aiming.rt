@@ -3,106 +3,20 @@
 ghost use Rattle.std.specs.Prelude.{◌≡◌, ◌≤◌, ℕ, Some};
 ghost use Rattle.snap_rule.specs.declared.change.Doing.TheVariants.{Nothing};
 ghost use Rattle.snap_stamp.specs.declared.layout.Field.TheVariants.{Key};
-ghost use Rattle.snap_stamp.specs.declared.side.Side.{Side};
-ghost use Rattle.snap_stamp.specs.declared.side.Side.TheVariants.{Right};
 ghost use Rattle.snap_steps.specs.Counting.{Among};
 ghost use Rattle.snap_steps.specs.Facts.{IsBorn, IsKnown};
 ghost use Rattle.snap_steps.specs.Owed.{ListsOnly};
 ghost use Rattle.snap_steps.specs.Seen.{IsOf, Becomes};
-ghost use Rattle.snap_steps.specs.Steps.Settling.{IsHeldRow, IsSeenSettled, MayAimAt, aimed_view, last_settled, passed_up, row_aimed, settled_last, up_passed};
+ghost use Rattle.snap_steps.specs.Steps.Settling.{IsHeldRow, IsSeenSettled, MayAimAt, aimed_view, last_settled, passed_up, settled_last};
 ghost use Rattle.snap_steps.specs.Steps.Unlinking.{HasKey, IsPair};
 
-use crate::fields::index_of;
 use crate::owed::Tally;
 use crate::pass::Pass;
 use crate::rows::Rows;
 use crate::view::View;
 use atomic_table::Play;
 use snap_stamp::{Field, Key, RowNo, Side};
-use std::marker::{Brand, PhantomData};
-
-/// A settled row and its parent, which the step is to tell of. Each call picks them.
-trait Rising {
-    ghost upper: { ℕ };
-
-    ghost upper_side: { Side };
-
-    ghost upper_key: { ℕ };
-
-    ghost lower: { ℕ };
-
-    ghost lower_key: { ℕ };
-}
-
-impl Rising for Brand {
-    ghost upper = { 0 };
-
-    ghost upper_side = { Right };
-
-    ghost upper_key = { 0 };
-
-    ghost lower = { 0 };
-
-    ghost lower_key = { 0 };
-}
-
-struct PassUp<J> {
-    marker: PhantomData<J>,
-}
-
-impl<J: Rising> Play<(), View> for PassUp<J> {
-    ghost then = { up_passed J.upper J.upper_key J.lower };
-}
-
-/// The row to which the to-do key moves, and its key. Each call picks them.
-trait Aiming {
-    ghost at: { ℕ };
-
-    ghost key: { ℕ };
-}
-
-impl Aiming for Brand {
-    ghost at = { 0 };
-
-    ghost key = { 0 };
-}
-
-struct TakeAim<J> {
-    marker: PhantomData<J>,
-}
-
-impl<J: Aiming> Play<(), View> for TakeAim<J> {
-    ghost then = { row_aimed J.at J.key };
-}
-
-fn up_told<J: Rising>(
-    rows: &Rows,
-    pass: &mut Pass,
-    parent: RowNo,
-    side: Side,
-    row: RowNo,
-    key: Key,
-    parent_key: Key,
-)
-    requires told { (parent ≡ J.upper) × (side ≡ J.upper_side) × (row ≡ J.lower)
-        × (key ≡ J.lower_key) × (parent_key ≡ J.upper_key) }
-    requires table { IsOf pass.old rows.now }
-    requires row { row ≤ rows.now.rows }
-    requires pair { IsPair pass.old.view J.upper J.upper_side J.lower }
-    requires key { IsKnown pass.old.view.words.knows J.lower Key J.lower_key }
-    requires aims { pass.old.view.debt.to_do ≡ Some J.lower_key }
-    requires parent_key { HasKey pass.old.view J.upper J.upper_key }
-    requires settled { IsSeenSettled pass.old.view J.lower }
-    requires whole { pass.old.view.doing ≡ Nothing }
-    ensures { Becomes pass.old pass.new (passed_up pass.old.view J.upper J.upper_key J.lower) }
-{
-    let _told = (side, key);
-    let word = index_of(row, Field::Height);
-    rows.table.shared.load::<PassUp<J>>(&mut pass.seat, word);
-    let listed = pass.owed.listed.without(row);
-    let owed = Tally::at(parent, parent_key, listed);
-    pass.owed = owed;
-}
+use std::marker::Brand;
 
 /// Takes a settled row off the list: the to-do key, which is the row's, goes up to its parent. Above row 0 nothing is
 /// left to do.
@@ -125,7 +39,11 @@ pub fn pass_up(
     requires whole { pass.old.view.doing ≡ Nothing }
     ensures { Becomes pass.old pass.new (passed_up pass.old.view parent parent_key row) }
 {
-    up_told::<Brand>(rows, pass, parent, side, row, key, parent_key);
+    let _told = (side, key);
+    rows.load_told::<Brand, _>(&mut pass.seat, row, Field::Height, (parent, parent_key));
+    let listed = pass.owed.listed.without(row);
+    let owed = Tally::at(parent, parent_key, listed);
+    pass.owed = owed;
 }
 
 struct SettleLast;
@@ -145,25 +63,8 @@ pub fn settle_last(rows: &Rows, pass: &mut Pass, row: RowNo)
     requires whole { pass.old.view.doing ≡ Nothing }
     ensures { Becomes pass.old pass.new (settled_last pass.old.view) }
 {
-    let word = index_of(row, Field::Height);
-    rows.table.shared.load::<SettleLast>(&mut pass.seat, word);
+    rows.load::<SettleLast>(&mut pass.seat, row, Field::Height);
     pass.owed = Tally::none();
-}
-
-fn aim_told<J: Aiming>(rows: &Rows, pass: &mut Pass, row: RowNo, key: Key)
-    requires told { (row ≡ J.at) × (key ≡ J.key) }
-    requires table { IsOf pass.old rows.now }
-    requires row { row ≤ rows.now.rows }
-    requires held { IsHeldRow pass.old.view J.at }
-    requires key { HasKey pass.old.view J.at J.key }
-    requires aims { MayAimAt pass.old.view J.at }
-    requires whole { pass.old.view.doing ≡ Nothing }
-    ensures { (x : ℕ) × Becomes pass.old pass.new (aimed_view pass.old.view J.at J.key x) }
-{
-    let word = index_of(row, Field::Stamp);
-    rows.table.shared.load::<TakeAim<J>>(&mut pass.seat, word);
-    let owed = Tally::at(row, key, pass.owed.listed);
-    pass.owed = owed;
 }
 
 /// The to-do key comes to be that of a held row, `key`, where nothing that is owed is lost: it is that already; or the
@@ -178,5 +79,7 @@ pub fn aim(rows: &Rows, pass: &mut Pass, row: RowNo, key: Key)
     requires whole { pass.old.view.doing ≡ Nothing }
     ensures { (x : ℕ) × Becomes pass.old pass.new (aimed_view pass.old.view row key x) }
 {
-    aim_told::<Brand>(rows, pass, row, key);
+    rows.load_told::<Brand, _>(&mut pass.seat, row, Field::Stamp, key);
+    let owed = Tally::at(row, key, pass.owed.listed);
+    pass.owed = owed;
 }

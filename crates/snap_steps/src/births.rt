@@ -6,7 +6,6 @@ ghost use Rattle.snap_steps.specs.Counting.{Among};
 ghost use Rattle.snap_steps.specs.Seen.{IsOf, Becomes};
 ghost use Rattle.snap_steps.specs.Steps.Births.{born, birth_noted, IsPast, birth_loaded, way_birth_loaded};
 
-use crate::fields::index_of;
 use crate::pass::Pass;
 use crate::rows::Rows;
 use crate::view::View;
@@ -33,8 +32,7 @@ pub fn load_birth(rows: &Rows, pass: &mut Pass, row: RowNo) -> u64
     ensures pass { Becomes pass.old pass.new (born pass.old.view row result) }
     ensures past { IsPast pass.old.view result }
 {
-    let word = index_of(row, Field::Birth);
-    rows.table.shared.load::<LoadBirth>(&mut pass.seat, word)
+    rows.load::<LoadBirth>(&mut pass.seat, row, Field::Birth)
 }
 
 /// Loads the birth of the row to which all checks have led the pass on the way of the key. The first such load of a
@@ -49,6 +47,5 @@ pub fn note_birth(rows: &Rows, pass: &mut Pass, key: Key, row: RowNo) -> u64
     ensures past { IsPast pass.old.view result }
 {
     let _key = key;
-    let word = index_of(row, Field::Birth);
-    rows.table.shared.load::<NoteBirth>(&mut pass.seat, word)
+    rows.load::<NoteBirth>(&mut pass.seat, row, Field::Birth)
 }

@@ -12,7 +12,7 @@ ghost use Rattle.snap_steps.specs.Steps.Header.{word_noted};
 ghost use Rattle.snap_steps.specs.declared.view.WordNote.TheVariants.{Done};
 
 use crate::counter::Steps;
-use crate::fields::{index_of, value_of};
+use crate::fields::value_of;
 use crate::pass::Pass;
 use crate::rows::Rows;
 use crate::view::View;
@@ -54,7 +54,7 @@ impl Model for ViewSeat {
 }
 
 /// A row of a clone, as it was at the cut.
-#[derive(Clone, Copy, Debug, PartialEq, Eq)]
+#[derive(Clone, Copy)]
 pub struct RowCopy {
     pub key: Key,
     pub value: Option<u64>,
@@ -103,9 +103,8 @@ pub fn load_root(rows: &Rows, pass: &mut Pass) -> RowNo
     ensures low { result ≤ rows.now.rows }
     ensures pass { pass.new ≡ pass.old }
 {
-    let word = index_of(RowNo::HOLDER, Field::Right);
-    let found = rows.table.shared.load::<LoadRoot>(&mut pass.seat, word);
-    RowNo::of(found as u32)
+    let found = rows.load::<LoadRoot>(&mut pass.seat, RowNo::HOLDER, Field::Right);
+    rows.row_of(found)
 }
 
 /// How many writes the table has had, as long as the pass that has cut keeps the gate closed. All of them stand in the
@@ -173,8 +172,7 @@ fn copy_word(rows: &Rows, seat: &mut ViewSeat, row: RowNo, field: Field) -> u64
     ensures word { TellsWord rows.now.rows (image seat.old) row field result }
     ensures seat { seat.new ≡ seat.old }
 {
-    let word = index_of(row, field);
-    rows.table.shared.load::<CopyWord>(&mut seat.seat, word)
+    rows.load::<CopyWord>(&mut seat.seat, row, field)
 }
 
 // The row to which a link of a row of the clone leads.
@@ -240,6 +238,5 @@ pub fn load_stamp(rows: &Rows, seat: &mut ViewSeat, row: RowNo) -> Stamp
     ensures seat { seat.new ≡ with_stamp seat.old row result }
     ensures cause { TellsCause seat.old.balance row result }
 {
-    let word = index_of(row, Field::Stamp);
-    Stamp::of(rows.table.shared.load::<LoadStamp>(&mut seat.seat, word))
+    Stamp::of(rows.load::<LoadStamp>(&mut seat.seat, row, Field::Stamp))
 }

@@ -3,45 +3,23 @@ ghost use Rattle.std.specs.Prelude.{◌≡◌, ◌≢◌, ℕ, ◌<◌, ◌≤�
 ghost use Rattle.snap_rule.specs.declared.change.Doing.TheVariants.{Nothing};
 ghost use Rattle.snap_rule.specs.Tree.{value_of};
 ghost use Rattle.snap_stamp.specs.Layout.{word_at};
-ghost use Rattle.snap_stamp.specs.declared.layout.Field.{Field};
 ghost use Rattle.snap_stamp.specs.declared.layout.Field.TheVariants.{Key, Lock, Stamp};
 ghost use Rattle.snap_steps.specs.Counting.{Among};
 ghost use Rattle.snap_steps.specs.Facts.{IsKnown};
 ghost use Rattle.snap_steps.specs.Seen.{IsOf, Becomes};
-ghost use Rattle.snap_steps.specs.Steps.Fields.{read, led_to, own_word_stored, word_loaded, stored_own};
+ghost use Rattle.snap_steps.specs.Steps.Fields.{read, led_to, own_word_stored, word_loaded};
 
 use crate::pass::Pass;
 use crate::rows::Rows;
 use crate::view::View;
 use atomic_table::Play;
 use snap_stamp::{Field, Key, RowNo, word_at};
-use std::marker::{Brand, PhantomData};
+use std::marker::Brand;
 
 struct LoadWord;
 
 impl Play<(), View> for LoadWord {
     ghost then = { word_loaded };
-}
-
-/// The word of a row that a store is to tell of. Each call picks it.
-trait Placed {
-    ghost at_row: { ℕ };
-
-    ghost at_field: { Field };
-}
-
-impl Placed for Brand {
-    ghost at_row = { 0 };
-
-    ghost at_field = { Key };
-}
-
-struct StoreOwn<J> {
-    marker: PhantomData<J>,
-}
-
-impl<J: Placed> Play<(), View> for StoreOwn<J> {
-    ghost then = { stored_own J.at_row J.at_field };
 }
 
 pub(crate) fn index_of(row: RowNo, field: Field) -> usize
@@ -69,8 +47,7 @@ pub fn load_word(rows: &Rows, pass: &mut Pass, row: RowNo, field: Field) -> u64
     ensures known { (x : ℕ) → IsKnown pass.old.view.words.knows row field x → result ≡ x }
     ensures led { (c : ℕ) → Among c (led_to pass.old.view row field result) → c ≤ rows.now.rows }
 {
-    let word = index_of(row, field);
-    rows.table.shared.load::<LoadWord>(&mut pass.seat, word)
+    rows.load::<LoadWord>(&mut pass.seat, row, field)
 }
 
 /// Loads the key of a row.
@@ -83,20 +60,6 @@ pub fn load_key(rows: &Rows, pass: &mut Pass, row: RowNo) -> Key
     load_word(rows, pass, row, Field::Key)
 }
 
-fn store_placed<J: Placed>(rows: &Rows, pass: &mut Pass, row: RowNo, field: Field, word: u64)
-    requires place { (row ≡ J.at_row) × (field ≡ J.at_field) }
-    requires table { IsOf pass.old rows.now }
-    requires row { row ≤ rows.now.rows }
-    requires own { Among row pass.old.view.fresh.own }
-    requires field { (field ≢ Lock) × (field ≢ Stamp) }
-    ensures { Becomes pass.old pass.new (own_word_stored pass.old.view J.at_row J.at_field word) }
-{
-    let index = index_of(row, field);
-    rows.table
-        .shared
-        .store::<StoreOwn<J>>(&mut pass.seat, index, word);
-}
-
 /// Stores a word in a row that the pass drew and that isn't linked. Its stamp and its lock stay 0 until it is.
 pub fn store_own(rows: &Rows, pass: &mut Pass, row: RowNo, field: Field, word: u64)
     requires table { IsOf pass.old rows.now }
@@ -106,16 +69,5 @@ pub fn store_own(rows: &Rows, pass: &mut Pass, row: RowNo, field: Field, word: u
     requires whole { pass.old.view.doing ≡ Nothing }
     ensures { Becomes pass.old pass.new (own_word_stored pass.old.view row field word) }
 {
-    store_placed::<Brand>(rows, pass, row, field, word);
-}
-
-/// Stores the key of such a row.
-pub fn store_key(rows: &Rows, pass: &mut Pass, row: RowNo, key: Key)
-    requires table { IsOf pass.old rows.now }
-    requires row { row ≤ rows.now.rows }
-    requires own { Among row pass.old.view.fresh.own }
-    requires whole { pass.old.view.doing ≡ Nothing }
-    ensures { Becomes pass.old pass.new (own_word_stored pass.old.view row Key key) }
-{
-    store_own(rows, pass, row, Field::Key, key);
+    rows.store::<Brand>(&mut pass.seat, row, field, word);
 }

@@ -1,10 +1,9 @@
 //! Loads of the header. Each leaves a note of what it found.
-ghost use Rattle.std.specs.Prelude.{◌≡◌, ◌≤◌, ℕ, length};
+ghost use Rattle.std.specs.Prelude.{◌≡◌, ◌≤◌, ℕ};
 ghost use Rattle.snap_steps.specs.Counting.{Among};
-ghost use Rattle.snap_steps.specs.Histories.{Extends};
 ghost use Rattle.snap_steps.specs.Seen.{IsOf, Becomes};
-ghost use Rattle.snap_steps.specs.Steps.Header.{word_noted, saw, left_seen, epoch_noted, next_loaded, gate_loaded, left_loaded, done_loaded, epoch_loaded};
-ghost use Rattle.snap_steps.specs.declared.view.WordNote.TheVariants.{Next, Gate, Done};
+ghost use Rattle.snap_steps.specs.Steps.Header.{word_noted, left_seen, epoch_noted, next_loaded, gate_loaded, left_loaded, epoch_loaded};
+ghost use Rattle.snap_steps.specs.declared.view.WordNote.TheVariants.{Next, Gate};
 
 use crate::pass::Pass;
 use crate::rows::Rows;
@@ -27,12 +26,6 @@ struct LoadLeft;
 
 impl Play<(), View> for LoadLeft {
     ghost then = { left_loaded };
-}
-
-struct LoadDone;
-
-impl Play<(), View> for LoadDone {
-    ghost then = { done_loaded };
 }
 
 struct LoadEpoch;
@@ -66,15 +59,6 @@ pub fn load_left(rows: &Rows, pass: &mut Pass) -> u64
     ensures { Becomes pass.old pass.new (left_seen pass.old.view result) }
 {
     rows.table.shared.load::<LoadLeft>(&mut pass.seat, 2)
-}
-
-/// How many entries of the history are counted. The pass has then seen at least as many.
-pub fn load_done(rows: &Rows, pass: &mut Pass) -> u64
-    requires { IsOf pass.old rows.now }
-    ensures { (seen : _) × Extends pass.old.view seen × (result ≤ length seen)
-        × Becomes pass.old pass.new (word_noted (saw pass.old.view seen) (Done result)) }
-{
-    rows.table.shared.load::<LoadDone>(&mut pass.seat, 3)
 }
 
 /// How many clones were cut. A pass in a write knows from then on that this is the epoch until it leaves, and finds

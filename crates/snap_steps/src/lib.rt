@@ -6,6 +6,7 @@
 #![tactic(auto)]
 
 mod absences;
+mod access;
 mod aiming;
 mod births;
 mod changes;
@@ -42,10 +43,10 @@ pub use clones::{
 pub use copies::{link_copy, load_shared};
 pub use counter::Steps;
 pub use draws::{Full, draw, try_draw};
-pub use fields::{load_key, load_word, store_key, store_own, value_of};
+pub use fields::{load_key, load_word, store_own, value_of};
 pub use front::{Front, close_rows};
 pub use gate::{count_left, cut, open_gate, try_close, try_enter};
-pub use header::{load_done, load_epoch, load_gate, load_left, load_next};
+pub use header::{load_epoch, load_gate, load_left, load_next};
 pub use locks::{free_lock, try_lock};
 pub use pass::{Note, Pass, Receipt};
 pub use rotating::{clear_shrinking, link_lowered, link_raised};

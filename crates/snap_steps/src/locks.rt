@@ -54,6 +54,5 @@ pub fn free_lock(rows: &Rows, pass: &mut Pass, row: RowNo)
     requires whole { pass.old.view.doing ≡ Nothing }
     ensures { Becomes pass.old pass.new (unlocked pass.old.view row) }
 {
-    let word = index_of(row, Field::Lock);
-    rows.table.shared.store::<FreeLock>(&mut pass.seat, word, 0);
+    rows.store::<FreeLock>(&mut pass.seat, row, Field::Lock, 0);
 }

@@ -15,6 +15,13 @@ pub enum Listed {
     Many,
 }
 
+// Whether the row is one of the two.
+fn is_either(row: RowNo, a: RowNo, b: RowNo) -> bool
+    ensures { IsTrue result ↔ (row ≡ a) ⊎ (row ≡ b) }
+{
+    row == a || row == b
+}
+
 impl Listed {
     // Whether the row is among them, or may be.
     fn names(&self, row: RowNo) -> bool
@@ -23,8 +30,8 @@ impl Listed {
         match *self {
             Listed::Empty => false,
             Listed::One(a) => row == a,
-            Listed::Two(a, b) => row == a || row == b,
-            Listed::Three(a, b, c) => row == a || row == b || row == c,
+            Listed::Two(a, b) => is_either(row, a, b),
+            Listed::Three(a, b, c) => row == a || is_either(row, b, c),
             Listed::Many => true,
         }
     }

@@ -8,7 +8,6 @@ ghost use Rattle.snap_steps.specs.Seen.{IsOf, Becomes};
 ghost use Rattle.snap_steps.specs.States.{link_field};
 ghost use Rattle.snap_steps.specs.Steps.Rotating.{lowered, lowered_stored, lifted, lifted_stored, cleared, cleared_stored};
 
-use crate::fields::index_of;
 use crate::owed::Tally;
 use crate::pass::Pass;
 use crate::rows::Rows;
@@ -53,10 +52,7 @@ pub fn link_lowered(
         (lowered pass.old.view parent parent_side row side raised middle) }
 {
     let _told = (parent, parent_side, raised);
-    let word = index_of(row, side.link());
-    rows.table
-        .shared
-        .store::<LeadMiddle>(&mut pass.seat, word, middle.number() as u64);
+    rows.store::<LeadMiddle>(&mut pass.seat, row, side.link(), middle.number() as u64);
 }
 
 /// Leads the raised row's link across to the row.
@@ -76,10 +72,7 @@ pub fn link_raised(
 {
     let _told = (parent, parent_side);
     let across = side.other();
-    let word = index_of(raised, across.link());
-    rows.table
-        .shared
-        .store::<LeadAcross>(&mut pass.seat, word, row.number() as u64);
+    rows.store::<LeadAcross>(&mut pass.seat, raised, across.link(), row.number() as u64);
 }
 
 /// Clears the row's shrinking mark, with the next count. `stamp` is its stamp with the mark.
@@ -91,10 +84,7 @@ pub fn clear_shrinking(rows: &Rows, pass: &mut Pass, row: RowNo, stamp: u64)
     requires count { stamp + 2 < 2 ^ 64 }
     ensures { Becomes pass.old pass.new (cleared pass.old.view row (stamp + 2)) }
 {
-    let word = index_of(row, Field::Stamp);
-    rows.table
-        .shared
-        .store::<ClearMark>(&mut pass.seat, word, stamp + 2);
+    rows.store::<ClearMark>(&mut pass.seat, row, Field::Stamp, stamp + 2);
     let listed = pass.owed.listed.with_row(row);
     pass.owed = Tally {
         to_do: pass.owed.to_do,

@@ -7,7 +7,6 @@ ghost use Rattle.snap_steps.specs.Seen.{IsOf, Becomes};
 ghost use Rattle.snap_steps.specs.Steps.Trying.{try_begun, tried_on, tried_last, busy_seen, IsTrying, try_begins, next_tried, answer_tried, busy_told};
 ghost use Rattle.snap_steps.specs.Steps.Way.{IsNext, IsLast, HasBound, HasAnswer};
 
-use crate::fields::index_of;
 use crate::pass::Pass;
 use crate::rows::Rows;
 use crate::view::View;
@@ -64,8 +63,7 @@ pub fn try_next_word(rows: &Rows, pass: &mut Pass, row: RowNo, field: Field) -> 
     ensures pass { (below : ℕ) × Becomes pass.old pass.new (tried_on pass.old.view result below) }
     ensures bound { HasBound pass.old.view result }
 {
-    let word = index_of(row, field);
-    rows.table.shared.load::<TryNext>(&mut pass.seat, word)
+    rows.load::<TryNext>(&mut pass.seat, row, field)
 }
 
 /// Loads the reader's last word, which answers its search at what the pass has now seen, or is trouble.
@@ -78,8 +76,7 @@ pub fn try_last_word(rows: &Rows, pass: &mut Pass, row: RowNo, field: Field) -> 
         × Becomes pass.old pass.new (tried_last pass.old.view seen result)
         × HasAnswer pass.old.view.way.reads result seen }
 {
-    let word = index_of(row, field);
-    rows.table.shared.load::<TryLast>(&mut pass.seat, word)
+    rows.load::<TryLast>(&mut pass.seat, row, field)
 }
 
 /// Loads the gate after trouble: more writes were entered than had ended when the read began. This ends it.

@@ -7,7 +7,6 @@ ghost use Rattle.snap_steps.specs.Facts.{IsKnown};
 ghost use Rattle.snap_steps.specs.Seen.{IsOf, Becomes};
 ghost use Rattle.snap_steps.specs.Steps.Rotating.{HasStamps, link_turned, turn_stored};
 
-use crate::fields::index_of;
 use crate::owed::Tally;
 use crate::pass::Pass;
 use crate::rows::Rows;
@@ -44,10 +43,12 @@ pub fn link_parent(
         → IsListed parent x pass.new.view.debt.list }
 {
     let _told = side;
-    let word = index_of(parent, parent_side.link());
-    rows.table
-        .shared
-        .store::<Turn>(&mut pass.seat, word, raised.number() as u64);
+    rows.store::<Turn>(
+        &mut pass.seat,
+        parent,
+        parent_side.link(),
+        raised.number() as u64,
+    );
     let above = pass.owed.listed.with_row(parent);
     let both = above.with_row(raised);
     let listed = both.with_row(row);

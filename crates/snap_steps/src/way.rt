@@ -5,17 +5,24 @@ ghost use Rattle.snap_rule.specs.declared.reader.Reading.TheVariants.{On};
 ghost use Rattle.snap_steps.specs.Histories.{Extends};
 ghost use Rattle.snap_steps.specs.Seen.{IsOf, Becomes};
 ghost use Rattle.snap_steps.specs.Steps.Header.{word_noted};
-ghost use Rattle.snap_steps.specs.Steps.Way.{set_out_for, read_on, settled_at, IsNext, IsLast, HasBound, HasAnswer, begun_again, way_begun, way_begun_again, next_read, answer_read};
+ghost use Rattle.snap_steps.specs.Steps.Way.{set_out_for, read_on, settled_at, IsNext, IsLast, HasBound, HasAnswer, begun_again, way_begun, next_read, answer_read};
 ghost use Rattle.snap_steps.specs.declared.view.WordNote.TheVariants.{Done};
 
-use crate::fields::index_of;
 use crate::pass::Pass;
 use crate::rows::Rows;
 use crate::view::View;
-use crate::writes::Saying;
 use atomic_table::Play;
 use snap_stamp::{Field, Key, RowNo};
 use std::marker::{Brand, PhantomData};
+
+/// The key on whose way a reader begins. Each call picks it.
+trait Saying {
+    ghost key: { ℕ };
+}
+
+impl Saying for Brand {
+    ghost key = { 0 };
+}
 
 struct SetOut<J> {
     marker: PhantomData<J>,
@@ -23,14 +30,6 @@ struct SetOut<J> {
 
 impl<J: Saying> Play<(), View> for SetOut<J> {
     ghost then = { way_begun J.key };
-}
-
-struct SetOutAgain<J> {
-    marker: PhantomData<J>,
-}
-
-impl<J: Saying> Play<(), View> for SetOutAgain<J> {
-    ghost then = { way_begun_again J.key };
 }
 
 struct ReadOn;
@@ -66,24 +65,12 @@ pub fn set_out(rows: &Rows, pass: &mut Pass, key: Key) -> u64
     set_out_keyed::<Brand>(rows, pass, key)
 }
 
-fn set_out_again_keyed<J: Saying>(rows: &Rows, pass: &mut Pass, key: Key)
-    requires key { key ≡ J.key }
-    requires table { IsOf pass.old rows.now }
-    ensures { Becomes pass.old pass.new (begun_again pass.old.view J.key) }
-{
-    let _key = key;
-    let word = index_of(RowNo::HOLDER, Field::Stamp);
-    rows.table
-        .shared
-        .load::<SetOutAgain<J>>(&mut pass.seat, word);
-}
-
 /// Stands at row 0 on the way of the key, with what the pass has seen so far: it loads a word that never changes.
 pub fn set_out_again(rows: &Rows, pass: &mut Pass, key: Key)
     requires { IsOf pass.old rows.now }
     ensures { Becomes pass.old pass.new (begun_again pass.old.view key) }
 {
-    set_out_again_keyed::<Brand>(rows, pass, key);
+    rows.load_told::<Brand, Key>(&mut pass.seat, RowNo::HOLDER, Field::Stamp, key);
 }
 
 /// Loads the reader's next word, which brings it to its next point, or back to row 0 where a check fails.
@@ -95,8 +82,7 @@ pub fn load_next_word(rows: &Rows, pass: &mut Pass, row: RowNo, field: Field) ->
     ensures pass { Becomes pass.old pass.new (read_on pass.old.view result) }
     ensures bound { HasBound pass.old.view result }
 {
-    let word = index_of(row, field);
-    rows.table.shared.load::<ReadOn>(&mut pass.seat, word)
+    rows.load::<ReadOn>(&mut pass.seat, row, field)
 }
 
 /// Loads the reader's last word, which answers its search at what the pass has now seen.
@@ -109,6 +95,5 @@ pub fn load_last_word(rows: &Rows, pass: &mut Pass, row: RowNo, field: Field) ->
         × Becomes pass.old pass.new (settled_at pass.old.view seen result)
         × HasAnswer pass.old.view.way.reads result seen }
 {
-    let word = index_of(row, field);
-    rows.table.shared.load::<ReadAnswer>(&mut pass.seat, word)
+    rows.load::<ReadAnswer>(&mut pass.seat, row, field)
 }

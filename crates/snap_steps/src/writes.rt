@@ -3,7 +3,6 @@ ghost use Rattle.std.specs.Prelude.{◌≡◌, ℕ, ◌<◌, ◌≤◌, true, fa
 ghost use Rattle.snap_model.specs.declared.call.Call.TheVariants.{Put, Remove};
 ghost use Rattle.snap_rule.specs.Tree.{value_of};
 ghost use Rattle.snap_rule.specs.declared.change.Doing.TheVariants.{Nothing};
-ghost use Rattle.snap_stamp.specs.declared.layout.Field.{Field};
 ghost use Rattle.snap_stamp.specs.declared.layout.Field.TheVariants.{Key, Value};
 ghost use Rattle.snap_steps.specs.Counting.{Among};
 ghost use Rattle.snap_steps.specs.Facts.{IsKnown, IsBorn};
@@ -14,7 +13,7 @@ ghost use Rattle.snap_steps.specs.Pairs.{added_by, taken_by};
 ghost use Rattle.snap_steps.specs.Seen.{IsOf, Becomes};
 ghost use Rattle.snap_steps.specs.States.{link_field};
 ghost use Rattle.snap_steps.specs.Steps.Debts.{OwesNothing};
-ghost use Rattle.snap_steps.specs.Steps.Writes.{call_of, entry_of, stored, made_entry, hung, counted_one, IsLeaf, IsLeafPlace, StoresValue, ConfirmsAbsent, leaf_hung, done_counted};
+ghost use Rattle.snap_steps.specs.Steps.Writes.{call_of, entry_of, stored, made_entry, hung, counted_one, IsLeaf, IsLeafPlace, StoresValue, done_counted};
 ghost use Rattle.snap_steps.specs.declared.view.Stage.TheVariants.{Writing};
 
 use crate::fields::index_of;
@@ -24,7 +23,7 @@ use crate::rows::Rows;
 use crate::view::View;
 use atomic_table::Play;
 use snap_stamp::{Field, Key, RowNo, Side};
-use std::marker::{Brand, PhantomData};
+use std::marker::Brand;
 
 struct StoreValue;
 
@@ -36,52 +35,6 @@ struct CountDone;
 
 impl Play<(), View> for CountDone {
     ghost then = { done_counted };
-}
-
-/// The key of the call that a step is to tell of. Each call picks it.
-pub(crate) trait Saying {
-    ghost key: { ℕ };
-}
-
-impl Saying for Brand {
-    ghost key = { 0 };
-}
-
-struct ConfirmAbsent<J> {
-    marker: PhantomData<J>,
-}
-
-impl<J: Saying> Play<(), View> for ConfirmAbsent<J> {
-    ghost then = { ConfirmsAbsent J.key };
-}
-
-/// Where a leaf is to be linked, and what it holds. Each call picks it.
-trait Leaf {
-    ghost key: { ℕ };
-
-    ghost value: { ℕ };
-
-    ghost below: { ℕ };
-
-    ghost by_field: { Field };
-}
-
-impl Leaf for Brand {
-    ghost key = { 0 };
-
-    ghost value = { 0 };
-
-    ghost below = { 0 };
-
-    ghost by_field = { Key };
-}
-
-struct LinkLeaf<J> {
-    marker: PhantomData<J>,
-}
-
-impl<J: Leaf> Play<(), View> for LinkLeaf<J> {
-    ghost then = { leaf_hung J.key J.value J.below J.by_field };
 }
 
 /// Stores the value word of a held row of the tree, and answers the word that was there. This makes the entry of
@@ -139,28 +92,6 @@ fn pairs_taken(key: Key, was: u64, new: u64) -> u64
     if was > 0 && new == 0 { 1 } else { 0 }
 }
 
-fn confirm_keyed<J: Saying>(rows: &Rows, pass: &mut Pass, row: RowNo, key: Key)
-    requires key { key ≡ J.key }
-    requires table { IsOf pass.old rows.now }
-    requires row { row ≤ rows.now.rows }
-    requires writing { pass.old.view.stage ≡ Writing false false }
-    requires held { Among row pass.old.view.holds }
-    requires reached { Among row pass.old.view.trail.reached }
-    requires known { IsKnown pass.old.view.words.knows row Key key
-        × IsKnown pass.old.view.words.knows row Value 0 }
-    requires copies { AllAre key pass.old.view.fresh.copies }
-    requires born { IsBorn pass.old.view row }
-    ensures { (log : _) × Enters pass.old.view log (entry_of pass.old.view.who (Remove J.key) None)
-        × Becomes pass.old pass.new
-        (made_entry pass.old.view log (entry_of pass.old.view.who (Remove J.key) None)) }
-{
-    let _key = key;
-    let word = index_of(row, Field::Value);
-    rows.table
-        .shared
-        .load::<ConfirmAbsent<J>>(&mut pass.seat, word);
-}
-
 /// Loads again the word that shows a held row of the tree to have no value. This makes the entry of the write: a
 /// removal of the row's key that found none.
 pub fn confirm_absent(rows: &Rows, pass: &mut Pass, row: RowNo, key: Key)
@@ -178,41 +109,7 @@ pub fn confirm_absent(rows: &Rows, pass: &mut Pass, row: RowNo, key: Key)
         × Becomes pass.old pass.new
         (made_entry pass.old.view log (entry_of pass.old.view.who (Remove key) None)) }
 {
-    confirm_keyed::<Brand>(rows, pass, row, key);
-}
-
-fn link_placed<J: Leaf>(
-    rows: &Rows,
-    pass: &mut Pass,
-    parent: RowNo,
-    field: Field,
-    row: RowNo,
-    key: Key,
-    value: u64,
-)
-    requires leaf { (key ≡ J.key) × (value ≡ J.value) × (parent ≡ J.below) × (field ≡ J.by_field) }
-    requires table { IsOf pass.old rows.now }
-    requires parent { parent ≤ rows.now.rows }
-    requires writing { pass.old.view.stage ≡ Writing false false }
-    requires made { IsLeaf pass.old.view row key value }
-    requires place { IsLeafPlace pass.old.view key parent field }
-    requires copies { AllAre key pass.old.view.fresh.copies }
-    requires whole { pass.old.view.doing ≡ Nothing }
-    requires owes { OwesNothing pass.old.view }
-    ensures { (log : _)
-        × Enters pass.old.view log (entry_of pass.old.view.who (Put J.key J.value) None)
-        × Becomes pass.old pass.new
-        (hung pass.old.view log
-        (entry_of pass.old.view.who (Put J.key J.value) None) J.below J.by_field row) }
-{
-    let _told = (key, value);
-    let word = index_of(parent, field);
-    rows.table
-        .shared
-        .store::<LinkLeaf<J>>(&mut pass.seat, word, row.number() as u64);
-    pass.added = pass.added.wrapping_add(1);
-    let owed = Tally::one(key, parent);
-    pass.owed = owed;
+    rows.load_told::<Brand, Key>(&mut pass.seat, row, Field::Value, key);
 }
 
 /// Links a row of the pass, which is a leaf with the key and the value, below the held row at which its way ends.
@@ -240,7 +137,11 @@ pub fn link_leaf(
         (link_field side) row) }
 {
     let field = side.link();
-    link_placed::<Brand>(rows, pass, parent, field, row, key, value);
+    let told = (key, value);
+    rows.store_told::<Brand, _>(&mut pass.seat, parent, field, row.number() as u64, told);
+    pass.added = pass.added.wrapping_add(1);
+    let owed = Tally::one(key, parent);
+    pass.owed = owed;
 }
 
 /// Counts the entry of the write that the pass is in.

@@ -15,6 +15,7 @@ use Rattle.std.proofs.Common.{◌≤◌, ◌<◌, ◌⊎◌, inl, inr, true, fal
 use lib.ListN.{get_elem?}
 use mathlib.Core.Option.{some}
 use Rattle.atomic_table.specs.Table.{step, keeps, Allows}
+use Rattle.snap_model.specs.History.{calls_of}
 use Rattle.snap_model.specs.declared.call.Entry.{Entry}
 use Rattle.snap_rule.proofs.Evolving.Telling.{cut_evolves, cut_image}
 use Rattle.snap_rule.proofs.Pairs.{tree_pairs}
@@ -157,7 +158,7 @@ cuts about slots id me gate passing alone closing s k wide at small =
           legal = k.history.legal;
           seen = each_stays views id v w at (IsIn log) k.history.seen (λ p. (begins_itself log, p.1));
           longest = omega (arith, k.history.longest, whole_grows log v w refl (begins_length v.seen w.seen more) (begins_length w.seen log (begins_itself log)), total-set (whole log) views id v w at);
-          mine = each_stays views id v w at (IsTrueOf log) k.history.mine (λ p. ((λ e. let t = p.0 e in (t.0, refl)), p.1, p.1));
+          mine = each_stays views id v w at (IsTrueOf log) k.history.mine (λ p. ((λ e. let t = p.0 e in (t.0, refl {a = calls_of log v.who})), p.1, p.1));
           others = λ i z. k.history.others i (omega (arith, z, total-set (names i) views id v w at));
         };
         counted = record { all = omega (arith, k.counted.all, total-set (λ u. owes_count u.stage) views id v w at); few = omega (arith, k.counted.few, total-set (λ u. has_counted u.stage) views id v w at) };

@@ -1,17 +1,17 @@
 -- Loads of the header keep the rule.
 use Rattle.snap_steps.specs.States.{state_of}
 use Rattle.snap_steps.proofs.Parts.Debts.{owed_itself}
-use Rattle.std.proofs.Common.{◌≡◌, ℕ, get_or, refl, ap, ◌∙◌, arith, ◌/◌, ◌<◌, ⊎_elim, [], ◌∷◌, ◌++◌, set, sym, subst}
+use Rattle.std.proofs.Common.{◌≡◌, ℕ, get_or, refl, ap, ◌∙◌, arith, ◌/◌, ◌<◌, ⊎_elim, [], ◌∷◌, ◌++◌, set, sym}
 use mathlib.Core.Logic.{dite}
 use mathlib.Core.Option.{none}
 use native.Mathlib.Decide.{dec_le}
 use Rattle.atomic_table.specs.Table.{step, keeps, Allows}
-use Rattle.snap_steps.specs.Steps.Header.{word_noted, next_loaded, gate_loaded, left_seen, left_loaded, saw, done_loaded, epoch_noted, epoch_loaded}
-use Rattle.snap_steps.specs.Roles.{is_live, is_counted}
-use Rattle.snap_steps.specs.declared.view.WordNote.TheVariants.{Next, Gate, Left, Done, Epoch}
+use Rattle.snap_steps.specs.Steps.Header.{word_noted, next_loaded, gate_loaded, left_seen, left_loaded, epoch_noted, epoch_loaded}
+use Rattle.snap_steps.specs.Roles.{is_live}
+use Rattle.snap_steps.specs.declared.view.WordNote.TheVariants.{Next, Gate, Left, Epoch}
 use Rattle.snap_steps.specs.declared.view.Role.TheVariants.{Passing}
 use Rattle.snap_steps.specs.declared.rule.About.{About}
-use Rattle.snap_steps.proofs.Memories.{next_is, loaded, left_is, done_is, epoch_is}
+use Rattle.snap_steps.proofs.Memories.{next_is, loaded, left_is, epoch_is}
 use Rattle.snap_steps.proofs.Classes.Turning.{Rule, noting, turning}
 use Rattle.snap_steps.specs.Steps.Told.{Sat}
 use Rattle.snap_steps.specs.Counting.{total}
@@ -23,7 +23,6 @@ use Rattle.snap_steps.proofs.Notes.{header_more}
 use Rattle.snap_steps.proofs.EachView.{each_stays}
 use Rattle.snap_steps.proofs.Parts.Uses.{used_moves}
 use Rattle.snap_steps.proofs.Parts.Gate.{gated_moves, after_left_counts, after_left_at, after_left_quiet}
-use Rattle.snap_steps.specs.Rule.History.{AllBegin}
 use Rattle.snap_steps.proofs.Prefixes.{begins_itself}
 use Rattle.snap_steps.proofs.Classes.Seeing.{seeing}
 use Rattle.snap_steps.proofs.Parts.Epochs.{epoch_with}
@@ -63,17 +62,6 @@ loads_left about slots id me s k wide at small =
           (used_moves s.views id v w at k.m.gate k.m.epoch k.m.gate k.m.epoch k.used refl refl refl (omega (arith, same.2)) (k.used.few id v at).0) (omega arith) (λ z. omega (arith, same.0)) (λ z. ap (λ st. after_left st r) (k.acting id v at z).0) (left_cut v.stage r)
           ((k.debts id v at).0, (λ z. (k.debts id v at).1 (omega (arith, same.0, z))), λ room ok. owed_itself s.views id v at (state_of k.m k.g) ok) (k.ways id v at, k.places id v at),
       (refl, refl),
-    )
-
-pub loads_done : (about : About) (slots id : ℕ) (me : Sat) → me.0.role ≡ Passing → me.0.joined ≡ [] → Allows (Rule about) slots id me 3 (λ n. n) (done_loaded (step slots 3 0 0 none) me)
-loads_done about slots id me passing alone s k wide at small =
-    let v : View = me.0 in let r : ℕ = get_or s.words 3 0 in let is : r ≡ k.m.done = done_is k.memory in let w : View = word_noted (saw v k.g.history) (Done r) in
-    let own = (k.history.mine id v at).0 (ap is_counted passing) in let seen = (k.history.seen id v at).0 in (
-      w,
-      keeps,
-      tt,
-      seeing about s.words s.views k 3 id v w at (k.known id v at) (k.reached id v at) tt (k.places id v at) (k.present id v at) (header_more k.m.next k.m.epoch v (Done r) (k.notes id v at) tt) (k.worn id v at) (k.lasting id v at) seen (begins_itself k.g.history) (subst (λ l. AllBegin l k.g.history) (sym alone) tt),
-      (refl, k.g.history, record { goes_on = seen; legal = k.history.legal; own = sym own.0 }, omega (arith, k.counted.all), refl),
     )
 
 pub loads_epoch : (about : About) (slots id : ℕ) (me : Sat) → Allows (Rule about) slots id me 4 (λ n. n) (epoch_loaded (step slots 4 0 0 none) me)

@@ -1,17 +1,14 @@
 -- Loads of the header. Each tells which word it loaded, so that a note is of that word and of no
 -- other.
-use Rattle.std.specs.Prelude.{[], ◌∷◌, ◌++◌, List, ℕ, ◌≡◌, ◌≤◌, length, max}
+use Rattle.std.specs.Prelude.{[], ◌∷◌, ◌++◌, List, ℕ, ◌≡◌, ◌≤◌, max}
 use Rattle.atomic_table.specs.Table.{Step}
-use Rattle.snap_model.specs.declared.call.Entry.{Entry}
-use Rattle.snap_rule.specs.declared.reader.Reading.TheVariants.{Resting}
 use Rattle.snap_steps.specs.declared.view.View.{View}
 use Rattle.snap_steps.specs.declared.view.WordNote.{WordNote}
 use Rattle.snap_steps.specs.Stages.{with_epoch, after_left}
 use Rattle.snap_steps.specs.declared.view.WordNote.TheVariants.{Next, Gate, Done}
 use Rattle.snap_steps.specs.Steps.Told.{Sat, Has}
 use Rattle.snap_steps.specs.Counting.{Among}
-use Rattle.snap_steps.specs.Histories.{Extends}
-use Rattle.snap_steps.specs.Memory.{next_at, gate_at, left_at, done_at, epoch_at}
+use Rattle.snap_steps.specs.Memory.{next_at, gate_at, left_at, epoch_at}
 use Rattle.snap_steps.specs.declared.view.WordNote.TheVariants as notes
 
 -- the greatest note of `next` so far, and that of `epoch`
@@ -61,9 +58,6 @@ all_noted v l = record v {
   };
 }
 
-abbrev pub saw : View → List Entry → View
-saw v seen = record v { seen = seen; way = record v.way { reads = Resting } }
-
 -- the epoch was loaded
 abbrev pub epoch_noted : View → ℕ → View
 epoch_noted v n =
@@ -82,12 +76,6 @@ gate_loaded st m r n = (st.word ≡ gate_at) × Has m n (word_noted m.0 (Gate r)
 
 abbrev pub left_loaded : Step (Unit {0}) → Sat → ℕ → Sat → Type 0
 left_loaded st m r n = (st.word ≡ left_at) × Has m n (left_seen m.0 r)
-
-abbrev pub done_loaded : Step (Unit {0}) → Sat → ℕ → Sat → Type 0
-done_loaded st m r n = (st.word ≡ done_at)
-    × (seen : List Entry) × Extends m.0 seen
-    × (r ≤ length seen)
-    × Has m n (word_noted (saw m.0 seen) (Done r))
 
 abbrev pub epoch_loaded : Step (Unit {0}) → Sat → ℕ → Sat → Type 0
 epoch_loaded st m r n = (st.word ≡ epoch_at)

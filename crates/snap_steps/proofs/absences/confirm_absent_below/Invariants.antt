@@ -1,5 +1,6 @@
+use Rattle.snap_steps.specs.Steps.Writes.{ConfirmsAbsent}
 use Rattle.snap_steps.proofs.absences.confirm_absent_below.Given as goal
 
--- the key that is confirmed absent
-abbrev pub ghosts-confirm_below_keyed : goal.ghosts-confirm_below_keyed
-ghosts-confirm_below_keyed a = record { key = a.key }
+-- the removal that finds none
+abbrev pub ghosts-load_told : goal.ghosts-load_told
+ghosts-load_told a = record { then = ConfirmsAbsent a.told }

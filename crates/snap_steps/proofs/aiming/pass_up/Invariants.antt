@@ -1,5 +1,6 @@
+use Rattle.snap_steps.specs.Steps.Settling.{up_passed}
 use Rattle.snap_steps.proofs.aiming.pass_up.Given as goal
 
--- the rows and their keys
-abbrev pub ghosts-up_told : goal.ghosts-up_told
-ghosts-up_told a = record { upper = a.parent; upper_side = a.side; upper_key = a.parent_key; lower = a.row; lower_key = a.key }
+-- the key goes up to the parent
+abbrev pub ghosts-load_told : goal.ghosts-load_told
+ghosts-load_told a = record { then = up_passed a.told.0 a.told.1 a.row }

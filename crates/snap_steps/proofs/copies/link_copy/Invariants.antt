@@ -1,5 +1,6 @@
+use Rattle.snap_steps.specs.Steps.Copies.{LinksCopy}
 use Rattle.snap_steps.proofs.copies.link_copy.Given as goal
 
--- the key of the place
-abbrev pub ghosts-copy_placed : goal.ghosts-copy_placed
-ghosts-copy_placed a = record { key = a.key }
+-- the copy takes the place
+abbrev pub ghosts-store_told : goal.ghosts-store_told
+ghosts-store_told a = record { then = LinksCopy a.told }

@@ -1,32 +1,25 @@
-use Rattle.std.proofs.Common.{rules, refl, sym, subst, ap, ◌∙◌, ℕ, ◌<◌, ◌≤◌}
+use Rattle.std.proofs.Common.{rules, refl, sym, subst, ap, ◌∙◌, ℕ}
 use mathlib.Core.Option.{none}
-use Rattle.atomic_table.specs.Table.{step, Allows}
+use Rattle.atomic_table.specs.Table.{step}
 use Rattle.snap_stamp.specs.Layout.{word_at}
 use Rattle.snap_stamp.specs.declared.layout.Field.{Field}
+use Rattle.snap_steps.specs.Asking.{about_of, Permits}
 use Rattle.snap_steps.specs.States.{link_field}
 use Rattle.snap_steps.specs.Steps.Rotating.{lifted, lifted_stored}
 use Rattle.snap_steps.specs.declared.view.View.{View}
-use Rattle.snap_steps.proofs.Cells.{word_within}
-use Rattle.snap_steps.proofs.Classes.Turning.{Rule}
 use Rattle.snap_steps.proofs.Keeps.Rotating.{lifts_link}
 use Rattle.snap_steps.proofs.Passing.{stays_pass, same_pairs}
 use Rattle.snap_steps.proofs.rotating.link_raised.Goals as goal
 
-pub store-requires : goal.store-requires
-store-requires c =
-    let low : c.args.raised ≤ c.rows.inside.table.shared.key.rows = search rules in
-    let near : c.index_of-word.result < c.rows.inside.table.shared.table_id.words = word_within _ _ c.args.raised c.rows.inside.rows c.link.result c.index_of-word.ensures (search rules) c.rows.invariant.words_are in (
-      search rules,
-      near,
-      subst (λ (y : ℕ). Allows (Rule c.rows.inside.table.shared.key) c.rows.inside.table.shared.table_id.slots c.pass.inside.seat.id c.pass.inside.seat.me c.index_of-word.result (λ _. y) (λ _. lifted_stored (step c.rows.inside.table.shared.table_id.slots c.index_of-word.result y 0 none) c.pass.inside.seat.me 0)) (sym c.number.ensures)
-          (subst (λ (i : ℕ). Allows (Rule c.rows.inside.table.shared.key) c.rows.inside.table.shared.table_id.slots c.pass.inside.seat.id c.pass.inside.seat.me i (λ _. c.args.row) (λ _. lifted_stored (step c.rows.inside.table.shared.table_id.slots i c.args.row 0 none) c.pass.inside.seat.me 0))
-          (sym (c.index_of-word.ensures ∙ ap (λ (y : Field). word_at c.args.raised y) (c.link.ensures ∙ ap link_field c.other-across.ensures)))
-          (lifts_link c.rows.inside.table.shared.key c.rows.inside.table.shared.table_id.slots c.pass.inside.seat.id c.pass.inside.seat.me c.args.parent c.args.parent_side c.args.row c.args.side c.args.raised low (search rules))),
-    )
+pub store-requires-clause-step : goal.store-requires-clause-step
+store-requires-clause-step c =
+    subst (λ (y : ℕ). Permits c.args.rows.now c.pass.inside.seat.id c.pass.inside.seat.me (word_at c.args.raised c.link.result) (λ _. y) (λ _. lifted_stored (step c.args.rows.now.table.slots (word_at c.args.raised c.link.result) y 0 none) c.pass.inside.seat.me 0)) (sym c.number.ensures)
+    (subst (λ (f : Field). Permits c.args.rows.now c.pass.inside.seat.id c.pass.inside.seat.me (word_at c.args.raised f) (λ _. c.args.row) (λ _. lifted_stored (step c.args.rows.now.table.slots (word_at c.args.raised f) c.args.row 0 none) c.pass.inside.seat.me 0)) (sym (c.link.ensures ∙ ap link_field c.other-across.ensures))
+    (lifts_link (about_of c.args.rows.now) c.args.rows.now.table.slots c.pass.inside.seat.id c.pass.inside.seat.me c.args.parent c.args.parent_side c.args.row c.args.side c.args.raised c.requires.raised (search rules)))
 
 pub invariant_of-pass : goal.invariant_of-pass
 invariant_of-pass c =
     let m = c.pass.inside.seat.me in
     let v : View = lifted m.0 c.args.parent c.args.parent_side c.args.row c.args.side c.args.raised in
     stays_pass m c.store.new.seat.me v c.pass.inside.who c.pass.inside.uses c.pass.inside.added c.pass.inside.taken c.pass.inside.added c.pass.inside.taken c.pass.inside.owed c.pass.inside.owed c.pass.invariant.owed_is
-    c.pass.invariant (c.store.ensures.2 c.args.parent c.args.row c.args.raised c.args.parent_side c.args.side (search rules)) refl refl refl refl (same_pairs m.0 v c.pass.inside.added c.pass.inside.taken refl refl c.pass.invariant.pairs)
+    c.pass.invariant (c.store.ensures.step c.args.parent c.args.row c.args.raised c.args.parent_side c.args.side (search rules)) refl refl refl refl (same_pairs m.0 v c.pass.inside.added c.pass.inside.taken refl refl c.pass.invariant.pairs)

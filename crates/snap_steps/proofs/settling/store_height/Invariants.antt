@@ -1,5 +1,6 @@
+use Rattle.snap_steps.specs.Steps.Settling.{StoresHeight}
 use Rattle.snap_steps.proofs.settling.store_height.Given as goal
 
--- the rows of the height
-abbrev pub ghosts-height_placed : goal.ghosts-height_placed
-ghosts-height_placed a = record { upper = a.parent; upper_side = a.side; lower = a.row; lower_key = a.key }
+-- the right height
+abbrev pub ghosts-store_told : goal.ghosts-store_told
+ghosts-store_told a = record { then = StoresHeight a.told.0 a.row a.told.1 }

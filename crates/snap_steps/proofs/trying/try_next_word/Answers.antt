@@ -1,15 +1,8 @@
-use Rattle.std.proofs.Common.{rules, sym, subst, ℕ, ◌<◌, ◌≤◌}
-use mathlib.Core.Option.{none}
-use Rattle.atomic_table.specs.Table.{step, Allows}
-use Rattle.snap_steps.proofs.Classes.Turning.{Rule}
-use Rattle.snap_steps.proofs.Cells.{word_within}
-use Rattle.snap_steps.specs.Steps.Trying.{next_tried}
+use Rattle.std.proofs.Common.{rules}
+use Rattle.snap_steps.specs.Asking.{about_of}
 use Rattle.snap_steps.proofs.Keeps.Trying.{tries_next}
 use Rattle.snap_steps.proofs.trying.try_next_word.Goals as goal
 
-pub load-requires : goal.load-requires
-load-requires c =
-    let low : c.args.row ≤ c.rows.inside.table.shared.key.rows = search rules in
-    let near : c.index_of-word.result < c.rows.inside.table.shared.table_id.words = word_within _ _ c.args.row c.rows.inside.rows c.args.field c.index_of-word.ensures (search rules) c.rows.invariant.words_are in
-    let t = c.requires.way in
-    (search rules, near, subst (λ (i : ℕ). Allows (Rule c.rows.inside.table.shared.key) c.rows.inside.table.shared.table_id.slots c.pass.inside.seat.id c.pass.inside.seat.me i (λ n. n) (next_tried (step c.rows.inside.table.shared.table_id.slots i 0 0 none) c.pass.inside.seat.me)) (sym c.index_of-word.ensures) (tries_next c.rows.inside.table.shared.key c.rows.inside.table.shared.table_id.slots c.pass.inside.seat.id c.pass.inside.seat.me c.args.row c.args.field t.0 t.1 t.2 t.3 t.4 low c.pass.invariant.pass.passing (search rules) t.6))
+pub load-requires-clause-step : goal.load-requires-clause-step
+load-requires-clause-step c = let t = c.requires.way in
+    tries_next (about_of c.args.rows.now) c.args.rows.now.table.slots c.pass.inside.seat.id c.pass.inside.seat.me c.args.row c.args.field t.0 t.1 t.2 t.3 t.4 c.requires.row c.pass.invariant.pass.passing (search rules) t.6

@@ -1,5 +1,6 @@
+use Rattle.snap_steps.specs.Steps.Way.{way_begun_again}
 use Rattle.snap_steps.proofs.way.set_out_again.Given as goal
 
--- the key of the way
-abbrev pub ghosts-set_out_again_keyed : goal.ghosts-set_out_again_keyed
-ghosts-set_out_again_keyed a = record { key = a.key }
+-- the way of the key
+abbrev pub ghosts-load_told : goal.ghosts-load_told
+ghosts-load_told a = record { then = way_begun_again a.told }

@@ -1,5 +1,6 @@
+use Rattle.snap_steps.specs.Steps.Writes.{leaf_hung}
 use Rattle.snap_steps.proofs.writes.link_leaf.Given as goal
 
--- what the step is to tell of
-abbrev pub ghosts-link_placed : goal.ghosts-link_placed
-ghosts-link_placed a = record { key = a.key; value = a.value; below = a.parent; by_field = a.field }
+-- the leaf is linked
+abbrev pub ghosts-store_told : goal.ghosts-store_told
+ghosts-store_told a = record { then = leaf_hung a.told.0 a.told.1 a.row a.field }
